@@ -1,0 +1,4 @@
+pub mod Never
+pub mod Bytes
+pub mod Every
+pub mod Signed

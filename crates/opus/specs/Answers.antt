@@ -1,0 +1,36 @@
+-- What the packet reader answers (document 01, 'Reading a packet').
+use Prim.Native.Nat.{ℕ, _-_}
+use mathlib.Core.List.{List, [], _++_}
+use mathlib.Core.Bool.{Bool, cond}
+use lib.Dec.{ltb}
+use lib.IntN.{ℤ, pos}
+use lib.ListN.{length, replicate}
+use Rattle.opus_defines.specs.Numbers.{refusalNumber}
+use Rattle.opus_defines.specs.declared.Refusal.{Refusal}
+use Rattle.opus_defines.specs.declared.Refusal.the-variants.{BadArg, InvalidPacket}
+use Rattle.opus_defines.specs.declared.Verdict.{Verdict}
+use Rattle.opus_defines.specs.declared.Verdict.the-variants.{Accepted, Refused}
+use Rattle.opus.specs.Reading.{Reading, refused, accepted, read}
+use Rattle.opus.specs.declared.Packet.{Packet}
+
+-- 48 lengths: those given, and zeros
+abbrev pub padded48 : List ℕ → List ℕ
+padded48 ns = ns ++ replicate (48 - length ns) 0
+
+-- a refusal, and zeros
+abbrev pub noPacket : Refusal → Packet
+noPacket e = record { verdict = Refused e; toc = 0; count = 0; lengths = padded48 []; first = 0; taken = 0 }
+
+abbrev pub packetOf : Reading → Packet
+packetOf (refused rule) = noPacket InvalidPacket
+packetOf (accepted toc ns first taken) =
+    record { verdict = Accepted; toc = toc; count = length ns; lengths = padded48 ns; first = first; taken = taken }
+
+-- `opus_packet_parse_impl`; `opus_packet_parse` is its ordinary form
+unfoldable pub parsed : Bool → List ℕ → Packet
+parsed sd p = cond (ltb 65535 (length p)) (noPacket BadArg) (packetOf (read sd p))
+
+-- the number that the crate returns for each verdict: the count, or the refusal's number
+abbrev pub packetNumber : Verdict → ℕ → ℤ
+packetNumber Accepted count = pos count
+packetNumber (Refused e) count = refusalNumber e

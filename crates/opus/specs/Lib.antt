@@ -1,0 +1,5 @@
+pub mod Frames
+pub mod Format
+pub mod Reading
+pub mod Answers
+pub mod Parts

@@ -1,0 +1,65 @@
+// The return numbers (opus_defines.rs of the crate, document 01 'Return numbers'), and the only two places where a signed number is
+// taken apart or made.
+ghost use mathlib.Core.Path.{_≡_};
+ghost use Prim.Native.Nat.{ℕ, _<_, _^_};
+ghost use Rattle.opus_defines.specs.Numbers.{refusalNumber, numberOf, countOf};
+
+// Why a call refuses. One type for the whole project, so that a refusal can later carry more than its number.
+pub enum Refusal {
+    BadArg,
+    BufferTooSmall,
+    InternalError,
+    InvalidPacket,
+    InvalidState,
+}
+
+// What an answer that is a record says beside its values.
+pub enum Verdict {
+    Accepted,
+    Refused(Refusal),
+}
+
+// What a call answers that gives one number. Every count, length and number of samples is below 65,536.
+pub enum Answer {
+    Number(u16),
+    Refused(Refusal),
+}
+
+// The number of a refusal.
+pub fn refusal_number(e: Refusal) -> i32
+    ensures { λ r. ⌜ r ≡ refusalNumber e ⌝ }
+{
+    match e {
+        Refusal::BadArg => -1,
+        Refusal::BufferTooSmall => -2,
+        Refusal::InternalError => -3,
+        Refusal::InvalidPacket => -4,
+        Refusal::InvalidState => -6,
+    }
+}
+
+// The number that a call returns.
+pub fn number_of(a: Answer) -> i32
+    ensures { λ r. ⌜ r ≡ numberOf a ⌝ }
+{
+    match a {
+        Answer::Number(n) => n as i32,
+        Answer::Refused(e) => refusal_number(e),
+    }
+}
+
+// A signed number taken apart.
+pub enum Count {
+    Is(usize),
+    Negative,
+}
+
+pub fn count_of(x: i32) -> Count
+    ensures is { λ r. ⌜ r ≡ countOf x ⌝ }
+    ensures small { λ r. ⌜ ((n : ℕ) → r ≡ Count.Is n → n < 2 ^ 31) ⌝ }
+{
+    if x < 0 {
+        return Count::Negative;
+    }
+    Count::Is(x as usize)
+}

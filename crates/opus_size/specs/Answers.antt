@@ -1,0 +1,38 @@
+-- What the length writer and the length reader answer (document 01, 'Lengths and the TOC byte').
+use Prim.Native.Nat.{ℕ, _-_}
+use mathlib.Core.List.{List}
+use mathlib.Core.Bool.{cond}
+use lib.Dec.{ltb}
+use lib.IntN.{ℤ, pos, negsuc}
+use lib.ListN.{length, drop}
+use Rattle.opus_defines.specs.Outcome.{Outcome, refuses, writes}
+use Rattle.opus_defines.specs.declared.Refusal.the-variants.{BadArg, BufferTooSmall}
+use Rattle.opus_defines.specs.declared.Verdict.the-variants.{Accepted, Refused}
+use Rattle.opus_size.specs.Size.{mostBytes, lengthField, Field, noField, field, readField}
+use Rattle.opus_size.specs.declared.Size.{Size}
+use Rattle.opus_size.specs.declared.SizeAt.{SizeAt}
+use Rattle.opus_size.specs.declared.SizeAt.the-variants.{Whole, Short}
+
+-- `encode_size`: the size is tested before the room
+unfoldable pub encodeSize : ℤ → List ℕ → Outcome
+encodeSize (negsuc n) s = refuses BadArg s
+encodeSize (pos n) s =
+    cond (ltb mostBytes n) (refuses BadArg s)
+    (cond (ltb (length s) (length (lengthField n))) (refuses BufferTooSmall s)
+    (writes (lengthField n) s))
+
+-- `parse_size`: the bytes used and the size; all zeros beside a refusal
+abbrev pub sizeOf : List ℕ → Field → Size
+sizeOf s noField = record { verdict = Refused BadArg; bytes = 0; size = 0 }
+sizeOf s (field n t) = record { verdict = Accepted; bytes = length s - length t; size = n }
+
+unfoldable pub parseSize : List ℕ → Size
+parseSize s = sizeOf s (readField s)
+
+-- a length at a place: the size, and the place behind its field
+abbrev pub placed : ℕ → Field → SizeAt
+placed m noField = Short
+placed m (field n t) = Whole n (m - length t)
+
+unfoldable pub sizeAt : List ℕ → ℕ → SizeAt
+sizeAt s at = placed (length s) (readField (drop at s))

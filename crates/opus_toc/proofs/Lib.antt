@@ -1,0 +1,3 @@
+pub mod Rates
+pub mod Samples
+pub mod Answers

@@ -1,0 +1,3 @@
+pub mod Toc
+pub mod Answers
+pub mod Formula

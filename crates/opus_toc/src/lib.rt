@@ -1,0 +1,154 @@
+// The TOC byte (RFC 6716, section 3.1): samples per frame and the frame count, as opus.rs and document 01 have them.
+ghost use mathlib.Core.Path.{_≡_};
+ghost use Prim.Native.Nat.{_*_, _<_, _≤_};
+ghost use lib.Dec.{leb};
+ghost use Rattle.opus_defines.specs.Numbers.{numberOf};
+ghost use Rattle.opus_toc.specs.Toc.{configuration, samples};
+ghost use Rattle.opus_toc.specs.Answers.{divisorOf, samplesAt, samplesPerFrame, nbFrames};
+use opus_defines::Answer;
+use opus_defines::Count;
+use opus_defines::Refusal;
+
+// Samples per frame at 48 kHz, for each TOC byte; a row is a configuration.
+const SAMPLES_48K: [u16; 256] = [
+    480, 480, 480, 480, 480, 480, 480, 480,
+    960, 960, 960, 960, 960, 960, 960, 960,
+    1920, 1920, 1920, 1920, 1920, 1920, 1920, 1920,
+    2880, 2880, 2880, 2880, 2880, 2880, 2880, 2880,
+    480, 480, 480, 480, 480, 480, 480, 480,
+    960, 960, 960, 960, 960, 960, 960, 960,
+    1920, 1920, 1920, 1920, 1920, 1920, 1920, 1920,
+    2880, 2880, 2880, 2880, 2880, 2880, 2880, 2880,
+    480, 480, 480, 480, 480, 480, 480, 480,
+    960, 960, 960, 960, 960, 960, 960, 960,
+    1920, 1920, 1920, 1920, 1920, 1920, 1920, 1920,
+    2880, 2880, 2880, 2880, 2880, 2880, 2880, 2880,
+    480, 480, 480, 480, 480, 480, 480, 480,
+    960, 960, 960, 960, 960, 960, 960, 960,
+    480, 480, 480, 480, 480, 480, 480, 480,
+    960, 960, 960, 960, 960, 960, 960, 960,
+    120, 120, 120, 120, 120, 120, 120, 120,
+    240, 240, 240, 240, 240, 240, 240, 240,
+    480, 480, 480, 480, 480, 480, 480, 480,
+    960, 960, 960, 960, 960, 960, 960, 960,
+    120, 120, 120, 120, 120, 120, 120, 120,
+    240, 240, 240, 240, 240, 240, 240, 240,
+    480, 480, 480, 480, 480, 480, 480, 480,
+    960, 960, 960, 960, 960, 960, 960, 960,
+    120, 120, 120, 120, 120, 120, 120, 120,
+    240, 240, 240, 240, 240, 240, 240, 240,
+    480, 480, 480, 480, 480, 480, 480, 480,
+    960, 960, 960, 960, 960, 960, 960, 960,
+    120, 120, 120, 120, 120, 120, 120, 120,
+    240, 240, 240, 240, 240, 240, 240, 240,
+    480, 480, 480, 480, 480, 480, 480, 480,
+    960, 960, 960, 960, 960, 960, 960, 960,
+];
+
+// Samples at 48 kHz: what the reader's limit of 120 ms is counted in.
+pub struct Samples48k(pub u16);
+
+// Samples at 8 kHz: what the collector's limit of 120 ms is counted in.
+pub struct Samples8k(pub u16);
+
+fn place(toc: u8) -> usize
+    ensures { λ r. ⌜ (r ≡ toc) × (r < 256) ⌝ }
+{
+    toc as usize
+}
+
+pub fn samples_48k(toc: u8) -> Samples48k
+    ensures { λ r. ⌜ r .0 ≡ samples 48000 (configuration toc) ⌝ }
+{
+    let i = place(toc);
+    Samples48k(SAMPLES_48K[i])
+}
+
+pub fn samples_8k(toc: u8) -> Samples8k
+    ensures { λ r. ⌜ r .0 ≡ samples 8000 (configuration toc) ⌝ }
+{
+    let at_48k = samples_48k(toc);
+    Samples8k(at_48k.0 / 6)
+}
+
+impl Samples48k {
+    // Whether so many frames last at most 120 ms.
+    pub fn fits(self, count: u16) -> bool
+        ensures { λ r. ⌜ r ≡ leb (count * self .0) 5760 ⌝ }
+    {
+        (count as u32) * (self.0 as u32) <= 5760
+    }
+}
+
+impl Samples8k {
+    // Whether so many frames last at most 120 ms.
+    pub fn fits(self, count: u16) -> bool
+        ensures { λ r. ⌜ r ≡ leb (count * self .0) 960 ⌝ }
+    {
+        (count as u32) * (self.0 as u32) <= 960
+    }
+}
+
+// The samples at 48 kHz divided by this are those at the rate; 0 where it is none of the five rates.
+fn divisor(rate: usize) -> u16
+    ensures { λ r. ⌜ r ≡ divisorOf rate ⌝ }
+{
+    match rate {
+        8000 => 6,
+        12000 => 4,
+        16000 => 3,
+        24000 => 2,
+        48000 => 1,
+        _ => 0,
+    }
+}
+
+// Samples per frame of a packet at a rate in Hz; BadArg for an empty packet or a rate that is none of the five.
+fn samples_per_frame(data: &[u8], rate: usize) -> Answer
+    ensures { λ r. ⌜ r ≡ samplesAt (now («data» .entry)) rate ⌝ }
+{
+    if data.len() == 0 {
+        return Answer::Refused(Refusal::BadArg);
+    }
+    let d = divisor(rate);
+    if d == 0 {
+        return Answer::Refused(Refusal::BadArg);
+    }
+    let each = samples_48k(data[0]);
+    Answer::Number(each.0 / d)
+}
+
+pub fn opus_packet_get_samples_per_frame(data: &[u8], rate: i32) -> i32
+    ensures { λ r. ⌜ r ≡ samplesPerFrame (now («data» .entry)) rate ⌝ }
+{
+    let Count::Is(hz) = opus_defines::count_of(rate) else {
+        return opus_defines::refusal_number(Refusal::BadArg);
+    };
+    opus_defines::number_of(samples_per_frame(data, hz))
+}
+
+// How many frames the TOC byte and, for code 3, the count byte say.
+fn nb_frames(data: &[u8]) -> Answer
+    ensures { λ r. ⌜ r ≡ nbFrames (now («data» .entry)) ⌝ }
+{
+    if data.len() == 0 {
+        return Answer::Refused(Refusal::BadArg);
+    }
+    let code = data[0] % 4;
+    if code == 0 {
+        return Answer::Number(1);
+    }
+    if code != 3 {
+        return Answer::Number(2);
+    }
+    if data.len() < 2 {
+        return Answer::Refused(Refusal::InvalidPacket);
+    }
+    Answer::Number((data[1] % 64) as u16)
+}
+
+pub fn opus_packet_get_nb_frames(data: &[u8]) -> i32
+    ensures { λ r. ⌜ r ≡ numberOf (nbFrames (now («data» .entry))) ⌝ }
+{
+    opus_defines::number_of(nb_frames(data))
+}
