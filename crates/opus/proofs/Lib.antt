@@ -1,1 +1,13 @@
-
+pub mod Frames
+pub mod Fields
+pub mod Padding
+pub mod Fronts
+pub mod Counts
+pub mod Complete
+pub mod Sound
+pub mod Facts
+pub mod Examples
+pub mod AtSizes
+pub mod AtPadding
+pub mod AtFrames
+pub mod AtPacket

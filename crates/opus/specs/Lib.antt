@@ -3,3 +3,4 @@ pub mod Format
 pub mod Reading
 pub mod Answers
 pub mod Parts
+pub mod Cases

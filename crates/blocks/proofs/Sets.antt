@@ -1,0 +1,133 @@
+-- The laws of `sets`, a run of stores, and of what specs/Blocks.antt makes of it.
+-- Assumes nothing.
+use mathlib.Core.Path.{_≡_, refl, sym, ap, _∙_}
+use mathlib.Core.Logic.{_≢_}
+use mathlib.Core.List.{List, [], _∷_, _++_}
+use Prim.Native.Nat.{ℕ, zero, suc, _+_, _≤_, _<_}
+use native.Mathlib.Nat.{add-zero, zero-add, add-suc, suc-add, not-suc-le-zero}
+use native.Mathlib.Numerals.{add-one}
+use native.Mathlib.Omega.{arith}
+use lib.ListN.{length, take, drop, getD, set, replicate, length-take, length-drop, length-set, length-replicate, replicate-append-replicate}
+use lib.Seq.{sets, sets-eq, take-append-seam, drop-append-seam, take-suc, drop-cons, getD-set-same, getD-set-other, getD-drop, set-comm, set-getD}
+use Rattle.blocks.specs.Blocks.{part, moved, filled, copied}
+
+-- two runs, one after the other, are one run
+pub sets-append : (l : List ℕ) (at : ℕ) (us vs : List ℕ) → sets l at (us ++ vs) ≡ sets (sets l at us) (at + length us) vs
+sets-append l at [] vs = rw add-zero
+sets-append l at (u ∷ us) vs = rw (add-suc, ← suc-add, sets-append (set l at u) (suc at) us vs)
+
+-- a store before a run may go first
+pub set-sets : (l : List ℕ) (i a at : ℕ) (vs : List ℕ) → i < at → set (sets l at vs) i a ≡ sets (set l i a) at vs
+set-sets l i a at [] h = refl
+set-sets l i a at (v ∷ vs) h =
+    let ne : i ≢ at = λ e. omega arith in
+    let h′ : i < suc at = omega arith in
+    set-sets (set l at v) i a (suc at) vs h′ ∙ ap (λ (m : List ℕ). sets m (suc at) vs) (sym (set-comm l i at a v ne))
+
+-- two runs that do not meet may change places
+pub sets-sets : (l : List ℕ) (at : ℕ) (us : List ℕ) (bt : ℕ) (vs : List ℕ) → at + length us ≤ bt → sets (sets l bt vs) at us ≡ sets (sets l at us) bt vs
+sets-sets l at [] bt vs h = refl
+sets-sets l at (u ∷ us) bt vs h =
+    let h′ : at < bt = omega arith in
+    let k : suc at + length us ≤ bt = omega arith in
+    rw (set-sets l at u bt vs) (sets-sets (set l at u) (suc at) us bt vs k)
+
+-- a run that is laid right before another makes one run with it
+pub sets-before-sets : (l : List ℕ) (at : ℕ) (us : List ℕ) (bt : ℕ) (vs : List ℕ) → at + length us ≡ bt → sets (sets l bt vs) at us ≡ sets l at (us ++ vs)
+sets-before-sets l at us bt vs e =
+    let h : at + length us ≤ bt = omega arith in
+    rw (sets-sets l at us bt vs, sets-append, e)
+
+-- a run's first element may be what stands there
+pub sets-kept : (l : List ℕ) (at : ℕ) (vs : List ℕ) → sets l at (getD l at 0 ∷ vs) ≡ sets l (suc at) vs
+sets-kept l at vs = ap (λ (m : List ℕ). sets m (suc at) vs) (set-getD l at 0)
+
+-- what a run leaves before it, and past it
+pub sets-before : (l : List ℕ) (at : ℕ) (vs : List ℕ) (k d : ℕ) → k < at → getD (sets l at vs) k d ≡ getD l k d
+sets-before l at [] k d h = refl
+sets-before l at (v ∷ vs) k d h =
+    let ne : k ≢ at = λ e. omega arith in
+    let h′ : k < suc at = omega arith in
+    sets-before (set l at v) (suc at) vs k d h′ ∙ getD-set-other l at k v d ne
+
+pub sets-past : (l : List ℕ) (at : ℕ) (vs : List ℕ) (k d : ℕ) → at + length vs ≤ k → getD (sets l at vs) k d ≡ getD l k d
+sets-past l at [] k d h = refl
+sets-past l at (v ∷ vs) k d h =
+    let ne : k ≢ at = λ e. omega arith in
+    let h′ : suc at + length vs ≤ k = omega arith in
+    sets-past (set l at v) (suc at) vs k d h′ ∙ getD-set-other l at k v d ne
+
+-- what a run left, within it
+pub sets-in : (l : List ℕ) (at : ℕ) (vs : List ℕ) (i d : ℕ) → i < length vs → at + i < length l → getD (sets l at vs) (at + i) d ≡ getD vs i d
+sets-in l at [] i d h k = absurd (not-suc-le-zero h)
+sets-in l at (v ∷ vs) zero d h k =
+    let h′ : at < suc at = omega arith in
+    let k′ : at < length l = omega arith in
+    rw (add-zero, sets-before (set l at v) (suc at) vs at d h′, getD-set-same l at v d)
+sets-in l at (v ∷ vs) (suc i) d h k =
+    let h′ : i < length vs = omega arith in
+    let k′ : suc at + i < length (set l at v) = simp length-set (omega arith) in
+    rw (add-suc, ← suc-add) (sets-in (set l at v) (suc at) vs i d h′ k′)
+
+-- a part's length, its elements, and one element more at either end
+length-part-le : (s : List ℕ) (from n : ℕ) → length (part s from n) ≤ n
+length-part-le s from n = simp length-take (omega arith)
+
+pub length-part : (s : List ℕ) (from n : ℕ) → from + n ≤ length s → length (part s from n) ≡ n
+length-part s from n h = simp (length-take, length-drop) (omega arith)
+
+part-next : (s : List ℕ) (from n : ℕ) → from + n < length s → part s from (n + 1) ≡ part s from n ++ (getD s (from + n) 0 ∷ [])
+part-next s from n h =
+    let h′ : n < length (drop from s) = simp length-drop (omega arith) in
+    rw (add-one, take-suc (drop from s) n 0 h′, getD-drop)
+
+part-prev : (s : List ℕ) (from n : ℕ) → from < length s → part s from (suc n) ≡ getD s from 0 ∷ part s (suc from) n
+part-prev s from n h = rw (drop-cons s from 0)
+
+-- ---- a turn of each loop
+
+-- a store right after a run makes the run longer
+pub sets-next : (l : List ℕ) (at i : ℕ) (vs : List ℕ) (a : ℕ) → length vs ≡ i → set (sets l at vs) (at + i) a ≡ sets l at (vs ++ (a ∷ []))
+sets-next l at i vs a e = rw (sets-append, e)
+
+pub copied-next : (d : List ℕ) (at : ℕ) (s : List ℕ) (from i : ℕ) → from + i < length s → set (copied d at s from i) (at + i) (getD s (from + i) 0) ≡ copied d at s from (i + 1)
+copied-next d at s from i h =
+    let h′ : from + i ≤ length s = omega arith in
+    rw part-next (sets-next d at i (part s from i) _ (length-part s from i h′))
+
+-- downward, what is read is not yet written over
+pub moved-next : (s : List ℕ) (from to i : ℕ) → to ≤ from → from + i < length s
+    → set (moved s from to i) (to + i) (getD (moved s from to i) (from + i) 0) ≡ moved s from to (i + 1)
+moved-next s from to i h k =
+    let past : to + length (part s from i) ≤ from + i = omega (arith, length-part-le s from i) in
+    rw (sets-past s to (part s from i) (from + i) 0 past) (copied-next s to s from i k)
+
+-- upward, from the last to the first: f, t and m are the places and the count after the turn, f⁺, t⁺ and m⁻ those before it
+pub moved-prev : (s : List ℕ) (f t m f⁺ t⁺ m⁻ : ℕ) → f⁺ ≡ suc f → t⁺ ≡ suc t → m ≡ suc m⁻ → f ≤ t → f < length s
+    → set (moved s f⁺ t⁺ m⁻) t (getD (moved s f⁺ t⁺ m⁻) f 0) ≡ moved s f t m
+moved-prev s f t m f⁺ t⁺ m⁻ ef et em h k =
+    let h′ : f < suc t = omega arith in
+    let t′ : t < suc t = omega arith in
+    rw (ef, et, em, part-prev, sets-before s (suc t) (part s (suc f) m⁻) f 0 h′, set-sets s t (getD s f 0) (suc t) (part s (suc f) m⁻) t′)
+
+pub filled-next : (s : List ℕ) (from i v : ℕ) → set (filled s from i v) (from + i) v ≡ filled s from (i + 1) v
+filled-next s from i v = rw (← replicate-append-replicate i 1 v) (sets-next s from i (replicate i v) v (length-replicate i v))
+
+-- ---- the same as the parts of a list, for a caller that goes by `take`, `drop` and `++`
+
+pub moved-eq : (s : List ℕ) (from to n : ℕ) → to + n ≤ length s → from + n ≤ length s → moved s from to n ≡ take to s ++ part s from n ++ drop (to + n) s
+moved-eq s from to n h k =
+    let e : length (part s from n) ≡ n = length-part s from n k in
+    let fits : to + length (part s from n) ≤ length s = omega arith in
+    rw e at (sets-eq {A = ℕ} (part s from n) s to fits)
+
+-- what was laid from place 0 on is read back, and what is past it is as it was
+pub take-sets : (l vs : List ℕ) → length vs ≤ length l → take (length vs) (sets l 0 vs) ≡ vs
+take-sets l vs h =
+    let fits : 0 + length vs ≤ length l = omega arith in
+    rw (sets-eq vs l 0 fits) (take-append-seam vs (drop (0 + length vs) l))
+
+pub drop-sets : (l vs : List ℕ) → length vs ≤ length l → drop (length vs) (sets l 0 vs) ≡ drop (length vs) l
+drop-sets l vs h =
+    let fits : 0 + length vs ≤ length l = omega arith in
+    rw (sets-eq vs l 0 fits) (drop-append-seam vs (drop (0 + length vs) l) ∙ rw zero-add)

@@ -1,0 +1,246 @@
+-- A packet of frames that were read at a place.
+--     packet-accepted, packet-refused     the packet by the verdict on its frames
+--     body-..                             code 3 behind its count byte
+--     three-..                            code 3: its count byte, and 120 ms counted in samples
+--     code-..                             a packet by its code
+--     parse-..                            what the reader answers, by the tests on the length
+-- Assumes nothing.
+use Prim.Native.Nat.{ℕ, zero, suc, _+_, _*_, _-_, _/_, _%_, _≤_, _<_}
+use native.Mathlib.Omega.{arith}
+use native.Mathlib.Nat.{mul-le-mul-left}
+use mathlib.Core.Path.{_≡_, refl, _∙_}
+use mathlib.Core.List.{List, [], _∷_}
+use mathlib.Core.Bool.{Bool, true, false, cond}
+use lib.Dec.{ltb, leb, eqb}
+use lib.ListN.{length, getD, take, drop, length-drop}
+use lib.Seq.{drop-drop, length-take-le}
+use borrow.Author.Tests.{lt-ltb, le-ltb, leb-true}
+use borrow.Rule.Slice.PartAt.{part-to-end}
+use Rattle.laws.proofs.Every.{every-at}
+use Rattle.laws.proofs.Never.{never, by-test}
+use Rattle.opus_defines.specs.declared.Refusal.{Refusal}
+use Rattle.opus_defines.specs.declared.Refusal.the-variants.{BadArg, InvalidPacket}
+use Rattle.opus_defines.specs.declared.Verdict.the-variants.{Accepted, Refused}
+use Rattle.opus_size.specs.Size.{Field, noField, field}
+use Rattle.opus_toc.specs.Toc.{upperSix, configuration, duration, samples}
+use Rattle.opus_toc.proofs.Samples.{lasts-at}
+use Rattle.opus.specs.Frames.{total}
+use Rattle.opus.specs.Reading.{Rule, R2, R3, R4, R5, R6, R7, Front, broken, front, Fields, noFields, fields, readFields, behindFields, equal, readPadding, frames3, lasts, Reading, refused, accept, behindPadding, read3, readCode, read}
+use Rattle.opus.specs.Answers.{noPacket, packetOf, parsed}
+use Rattle.opus.specs.Parts.{framesAt, paddingAt, packetAt}
+use Rattle.opus.specs.declared.FramesAt.{FramesAt}
+use Rattle.opus.specs.declared.Packet.{Packet}
+use Rattle.opus.specs.declared.PaddingAt.the-variants.{Whole, Unfit}
+use Rattle.opus.proofs.AtFrames.{Within, unequal-within, equal-within, frames-within}
+use Rattle.opus.proofs.AtPadding.{Padded, padding-was}
+
+module _ (toc at pad : ℕ) (f : FramesAt) where
+  pub packet-accepted : f .verdict ≡ Accepted
+      → record { verdict = f .verdict; toc = toc; count = f .count; lengths = f .lengths; first = at + f .first; taken = at + f .first + f .total + pad } ≡ packetAt toc at pad f
+  packet-accepted e = rw e
+
+  pub packet-refused : (e : Refusal) → f .verdict ≡ Refused e → noPacket e ≡ packetAt toc at pad f
+  packet-refused r e = rw e
+
+-- m bytes are `at` bytes, n bytes in which the frames were read, and the padding
+packet-of : (m n toc at pad : ℕ) (f : Front) → Within n f → m ≡ at + n + pad → packetAt toc at pad (framesAt n f) ≡ packetOf (accept m toc pad f)
+packet-of m n toc at pad (broken r) w e = refl
+packet-of m n toc at pad (front ns t) w e = let first : m - pad - length t ≡ at + (n - length t) = omega arith in rw first
+
+packet-fits : (m n at pad : ℕ) (f : Front) → Within n f → m ≡ at + n + pad → at + framesAt n f .first + framesAt n f .total + pad ≤ m
+packet-fits m n at pad (broken r) w e = omega arith
+packet-fits m n at pad (front ns t) w e = omega arith
+
+-- the same of an answer f that is those frames
+module _ (m n toc at pad : ℕ) (r : Front) (w : Within n r) (e : m ≡ at + n + pad) (f : FramesAt) (g : f ≡ framesAt n r) where
+  answer-of : packetAt toc at pad f ≡ packetOf (accept m toc pad r)
+  answer-of = rw g (packet-of m n toc at pad r w e)
+
+  answer-fits : at + f .first + f .total + pad ≤ m
+  answer-fits = rw g (packet-fits m n at pad r w e)
+
+-- ---- code 3 behind its count byte
+unfit-refused : (sd : Bool) (k m toc v count : ℕ) (f : Field) → paddingAt k f ≡ Unfit → noPacket InvalidPacket ≡ packetOf (behindPadding sd m toc v count f)
+unfit-refused sd k m toc v count noField e = refl
+unfit-refused sd k m toc v count (field pad t) e = by-test (ltb (length t) pad) (λ b. rw b) (λ b. never (let q = rw b at e in cc))
+
+-- the part of a list from one place up to another, as the code lends it
+abbrev pub part : List ℕ → ℕ → ℕ → List ℕ
+part d a e = take (e - a) (drop a d)
+
+abbrev body : Bool → List ℕ → ℕ → Reading
+body sd d count = behindPadding sd (length d) (getD d 0 0) (getD d 1 0 / 128 % 2) count (readPadding (getD d 1 0 / 64 % 2) (drop 2 d))
+
+-- the padding of a slice that was lent from place 2 on
+abbrev padding : List ℕ → Field
+padding d = readPadding (getD d 1 0 / 64 % 2) (part d 2 (length d))
+
+module _ (sd : Bool) (d : List ℕ) (count : ℕ) where
+  pub body-unfit : paddingAt (length (part d 2 (length d))) (padding d) ≡ Unfit → noPacket InvalidPacket ≡ packetOf (body sd d count)
+  body-unfit e = unfit-refused sd (length (drop 2 d)) (length d) (getD d 0 0) (getD d 1 0 / 128 % 2) count (readPadding (getD d 1 0 / 64 % 2) (drop 2 d)) (rw (part-to-end d 2) at e)
+
+  module _ (h : 2 ≤ length d) (pad next : ℕ) (e : paddingAt (length (part d 2 (length d))) (padding d) ≡ Whole pad next) where
+    was : Padded (getD d 1 0 / 64 % 2) (drop 2 d) pad next
+    was = padding-was (getD d 1 0 / 64 % 2) (drop 2 d) pad next (rw (part-to-end d 2) at e)
+
+    pub body-room : 2 + next + pad ≤ length d
+    body-room = omega (arith, was .room, length-drop 2 d)
+
+    -- the frames lie between the padding lengths and the padding
+    inner : List ℕ
+    inner = part d (2 + next) (length d - pad)
+
+    all-bytes : length d ≡ 2 + next + length inner + pad
+    unfolding inner
+    all-bytes =
+        let l : length inner ≡ length d - pad - (2 + next) = length-take-le (length d - pad - (2 + next)) (drop (2 + next) d) (omega (arith, body-room, length-drop (2 + next) d)) in
+        omega (arith, body-room)
+
+    reads : body sd d count ≡ accept (length d) (getD d 0 0) pad (frames3 sd (getD d 1 0 / 128 % 2) count inner)
+    unfolding inner
+    reads =
+        let left : length (drop (2 + next) d) - pad ≡ length d - pad - (2 + next) = omega (arith, length-drop (2 + next) d) in
+        let enough : ltb (length (drop (2 + next) d)) pad ≡ false = le-ltb (length (drop (2 + next) d)) pad (omega (arith, body-room, length-drop (2 + next) d)) in
+        rw (was .means, drop-drop next 2 d, enough, left)
+
+    module _ (f : FramesAt) (g : f ≡ framesAt (length (part d (2 + next) (length d - pad))) (frames3 sd (getD d 1 0 / 128 % 2) count (part d (2 + next) (length d - pad)))) where
+      pub body-fits : 2 + next + f .first + f .total + pad ≤ length d
+      unfolding inner
+      body-fits = answer-fits (length d) (length inner) (getD d 0 0) (2 + next) pad (frames3 sd (getD d 1 0 / 128 % 2) count inner) (frames-within inner sd (getD d 1 0 / 128 % 2) count) all-bytes f g
+
+      pub body-read : packetAt (getD d 0 0) (2 + next) pad f ≡ packetOf (body sd d count)
+      unfolding inner
+      body-read = rw reads (answer-of (length d) (length inner) (getD d 0 0) (2 + next) pad (frames3 sd (getD d 1 0 / 128 % 2) count inner) (frames-within inner sd (getD d 1 0 / 128 % 2) count) all-bytes f g)
+
+-- ---- code 3
+-- a frame is at least 2.5 ms
+some-samples : (c : ℕ) → c < 32 → 120 ≤ samples 48000 c
+unfolding samples duration
+some-samples c h = leb-true 120 (samples 48000 c) (every-at 32 (λ c. leb 120 (samples 48000 c)) refl c h)
+
+module _ (toc count n : ℕ) (b : toc < 256) (e : n ≡ samples 48000 (configuration toc)) where
+  lasts-is : (count ≡ 0 → ⊥) → leb (count * n) 5760 ≡ lasts (upperSix toc) count
+  lasts-is z = rw (e, lt-ltb 0 count (omega arith)) (lasts-at 48000 refl count (configuration toc) (omega arith))
+
+  pub most-frames : leb (count * n) 5760 ≡ true → count ≤ 48
+  most-frames t =
+      let each : 120 ≤ n = omega (arith, some-samples (configuration toc) (omega arith)) in
+      omega (arith, leb-true (count * n) 5760 t, mul-le-mul-left count each)
+
+module _ (sd : Bool) where
+  -- a packet that is long enough for its count byte
+  three-is : (d : List ℕ) → 2 ≤ length d → read3 sd (length d) (getD d 0 0) (drop 1 d) ≡ cond (lasts (upperSix (getD d 0 0)) (getD d 1 0 % 64)) (body sd d (getD d 1 0 % 64)) (refused R5)
+  three-is [] h = absurd (omega arith)
+  three-is (toc ∷ []) h = absurd (omega arith)
+  three-is (toc ∷ c ∷ s) h = refl
+
+  pub three-short : (d : List ℕ) → length d < 2 → noPacket InvalidPacket ≡ packetOf (read3 sd (length d) (getD d 0 0) (drop 1 d))
+  three-short [] h = refl
+  three-short (toc ∷ []) h = refl
+  three-short (toc ∷ c ∷ s) h = absurd (omega arith)
+
+  module _ (d : List ℕ) (h : 2 ≤ length d) where
+    pub three-none : getD d 1 0 % 64 ≡ 0 → noPacket InvalidPacket ≡ packetOf (read3 sd (length d) (getD d 0 0) (drop 1 d))
+    three-none z = rw (three-is d h, z)
+
+    module _ (z : getD d 1 0 % 64 ≡ 0 → ⊥) (n : ℕ) (b : getD d 0 0 < 256) (e : n ≡ samples 48000 (configuration (getD d 0 0))) where
+      lasting : leb (getD d 1 0 % 64 * n) 5760 ≡ lasts (upperSix (getD d 0 0)) (getD d 1 0 % 64)
+      lasting = lasts-is (getD d 0 0) (getD d 1 0 % 64) n b e z
+
+      pub three-long : leb (getD d 1 0 % 64 * n) 5760 ≡ false → noPacket InvalidPacket ≡ packetOf (read3 sd (length d) (getD d 0 0) (drop 1 d))
+      three-long t = rw (three-is d h, ← lasting, t)
+
+      pub three-read : leb (getD d 1 0 % 64 * n) 5760 ≡ true → (x : Packet) → x ≡ packetOf (body sd d (getD d 1 0 % 64)) → x ≡ packetOf (read3 sd (length d) (getD d 0 0) (drop 1 d))
+      three-read t x e = rw (three-is d h, ← lasting, t) e
+
+-- ---- the codes
+-- which rule refuses does not show in the packet
+module _ (m toc pad : ℕ) (q r : Rule) where
+  unequal-rule : (sd : Bool) (f : Fields) → packetOf (accept m toc pad (behindFields sd q f)) ≡ packetOf (accept m toc pad (behindFields sd r f))
+  unequal-rule sd noFields = refl
+  unequal-rule sd (fields ns s) = by-test (ltb (length s) (total ns)) (λ b. rw b) (λ b. rw b)
+
+  equal-rule : (sd : Bool) (count : ℕ) (s : List ℕ) → packetOf (accept m toc pad (equal sd q count s)) ≡ packetOf (accept m toc pad (equal sd r count s))
+  equal-rule false count s = by-test (eqb (length s % count) 0) (λ b. rw b) (λ b. rw b)
+  equal-rule true count s = refl
+
+-- frames that were read behind the TOC byte, as r reads them from any list
+module _ (d : List ℕ) (h : 1 ≤ length d) (r : List ℕ → Front) (w : (s : List ℕ) → Within (length s) (r s)) where
+  rest : List ℕ
+  rest = part d 1 (length d)
+
+  all-rest : length d ≡ 1 + length rest + 0
+  unfolding rest
+  all-rest = rw (part-to-end d 1) (omega (arith, length-drop 1 d))
+
+  module _ (f : FramesAt) (g : f ≡ framesAt (length (part d 1 (length d))) (r (part d 1 (length d)))) where
+    rest-fits : 1 + f .first + f .total + 0 ≤ length d
+    unfolding rest
+    rest-fits = answer-fits (length d) (length rest) 0 1 0 (r rest) (w rest) all-rest f g
+
+    rest-read : packetAt (getD d 0 0) 1 0 f ≡ packetOf (accept (length d) (getD d 0 0) 0 (r (drop 1 d)))
+    unfolding rest
+    rest-read = rw (part-to-end d 1) at (answer-of (length d) (length rest) (getD d 0 0) 1 0 (r rest) (w rest) all-rest f g)
+
+-- a packet that is not empty is read by its code
+by-code : (sd : Bool) (d : List ℕ) → 1 ≤ length d → read sd d ≡ readCode sd (getD d 0 0 % 4) (length d) (getD d 0 0) (drop 1 d)
+unfolding read
+by-code sd [] h = absurd (omega arith)
+by-code sd (toc ∷ s) h = refl
+
+third : (sd : Bool) (c m toc : ℕ) (s : List ℕ) → (c ≡ 0 → ⊥) → (c ≡ 1 → ⊥) → (c ≡ 2 → ⊥) → readCode sd c m toc s ≡ read3 sd m toc s
+third sd zero m toc s n₀ n₁ n₂ = absurd (n₀ refl)
+third sd (suc zero) m toc s n₀ n₁ n₂ = absurd (n₁ refl)
+third sd (suc (suc zero)) m toc s n₀ n₁ n₂ = absurd (n₂ refl)
+third sd (suc (suc (suc c))) m toc s n₀ n₁ n₂ = refl
+
+-- the two kinds of frames behind a TOC byte
+abbrev unequalIn : Bool → ℕ → List ℕ → Front
+unequalIn sd k s = behindFields sd R7 (readFields k s)
+
+abbrev equalIn : Bool → List ℕ → Front
+equalIn sd s = equal sd R6 2 s
+
+module _ (sd : Bool) (d : List ℕ) (h : 1 ≤ length d) where
+  module _ (k : ℕ) (f : FramesAt) (g : f ≡ framesAt (length (part d 1 (length d))) (unequalIn sd k (part d 1 (length d)))) where
+    pub unequal-fits : 1 + f .first + f .total + 0 ≤ length d
+    unequal-fits = rest-fits d h (unequalIn sd k) (λ s. unequal-within s sd R7 k) f g
+
+    unequal-read : (r : Rule) → readCode sd (getD d 0 0 % 4) (length d) (getD d 0 0) (drop 1 d) ≡ accept (length d) (getD d 0 0) 0 (behindFields sd r (readFields k (drop 1 d)))
+        → packetAt (getD d 0 0) 1 0 f ≡ packetOf (read sd d)
+    unequal-read r e =
+        rest-read d h (unequalIn sd k) (λ s. unequal-within s sd R7 k) f g
+        ∙ rw (by-code sd d h, e) (unequal-rule (length d) (getD d 0 0) 0 R7 r sd (readFields k (drop 1 d)))
+
+    pub code-0 : getD d 0 0 % 4 ≡ 0 → k ≡ 0 → packetAt (getD d 0 0) 1 0 f ≡ packetOf (read sd d)
+    code-0 e z = unequal-read R2 (rw (e, z))
+
+    pub code-2 : getD d 0 0 % 4 ≡ 2 → k ≡ 1 → packetAt (getD d 0 0) 1 0 f ≡ packetOf (read sd d)
+    code-2 e z = unequal-read R4 (rw (e, z))
+
+  module _ (f : FramesAt) (g : f ≡ framesAt (length (part d 1 (length d))) (equalIn sd (part d 1 (length d)))) where
+    pub equal-fits : 1 + f .first + f .total + 0 ≤ length d
+    equal-fits = rest-fits d h (equalIn sd) (λ s. equal-within s sd R6 2) f g
+
+    pub code-1 : getD d 0 0 % 4 ≡ 1 → packetAt (getD d 0 0) 1 0 f ≡ packetOf (read sd d)
+    code-1 e =
+        rest-read d h (equalIn sd) (λ s. equal-within s sd R6 2) f g
+        ∙ rw (by-code sd d h, e) (equal-rule (length d) (getD d 0 0) 0 R6 R3 sd 2 (drop 1 d))
+
+  pub code-3 : (getD d 0 0 % 4 ≡ 0 → ⊥) → (getD d 0 0 % 4 ≡ 1 → ⊥) → (getD d 0 0 % 4 ≡ 2 → ⊥) → packetOf (read3 sd (length d) (getD d 0 0) (drop 1 d)) ≡ packetOf (read sd d)
+  code-3 n₀ n₁ n₂ = rw (by-code sd d h, third sd (getD d 0 0 % 4) (length d) (getD d 0 0) (drop 1 d) n₀ n₁ n₂)
+
+-- ---- the tests on the length
+module _ (sd : Bool) where
+  pub parse-long : (d : List ℕ) → 65535 < length d → noPacket BadArg ≡ parsed sd d
+  unfolding parsed
+  parse-long d h = rw (lt-ltb 65535 (length d) h)
+
+  pub parse-empty : (d : List ℕ) → length d ≡ 0 → noPacket InvalidPacket ≡ parsed sd d
+  unfolding parsed read
+  parse-empty [] e = refl
+  parse-empty (a ∷ d) e = absurd (omega arith)
+
+  pub parse-read : (d : List ℕ) → length d ≤ 65535 → packetOf (read sd d) ≡ parsed sd d
+  unfolding parsed
+  parse-read d h = rw (le-ltb 65535 (length d) h)

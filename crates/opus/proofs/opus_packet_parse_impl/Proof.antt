@@ -1,0 +1,33 @@
+-- `opus::opus_packet_parse_impl` meets its contract: by the tests on the length.
+-- Assumes nothing.
+use mathlib.Core.Path.{_∙_}
+use borrow.Author.Needs.{needs}
+use Rattle.opus.proofs.AtPacket.{parse-long, parse-empty, parse-read}
+use Rattle.opus.proofs.opus_packet_parse_impl.Statement.{statement}
+use Rattle.opus.proofs.opus_packet_parse_impl.Tie as tie
+
+returns : tie.Need-returns
+returns c =
+    let a = c .before .before .before .args in
+    c .no-packet .ensures ∙ parse-long (a .self-delimited) (a .«data» .now) (c .before .if1 .taken)
+
+returns-2 : tie.Need-returns-2
+returns-2 c =
+    let a = c .before .before .before .before .args in
+    c .no-packet2 .ensures ∙ parse-empty (a .self-delimited) (a .«data» .now) (c .before .if2 .taken)
+
+returns-3 : tie.Need-returns-3
+returns-3 c =
+    let a = c .before .before .before .before .args in
+    c .read-packet .ensures ∙ parse-read (a .self-delimited) (a .«data» .now) (c .before .before .if1 .left)
+
+pub opus-packet-parse-impl-spec : {M : Type 1} → statement M
+opus-packet-parse-impl-spec =
+    tie.close
+    (tie.spec
+    (λ c κs. search needs)
+    returns
+    (λ c κs. search needs)
+    returns-2
+    (λ c κs. search needs)
+    returns-3)

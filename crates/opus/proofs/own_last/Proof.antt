@@ -1,0 +1,56 @@
+-- `opus::own_last` meets its contract: the last frame's length stands behind the others'.
+-- Assumes nothing.
+use mathlib.Core.Path.{sym, _∙_}
+use borrow.Author.Needs.{needs}
+use Rattle.opus_size.proofs.At.{whole-was, short-was}
+use Rattle.opus.proofs.AtFrames.{own-short, own-over, own-read}
+use Rattle.opus.proofs.own_last.Statement.{statement}
+use Rattle.opus.proofs.own_last.Tie as tie
+
+returns : tie.Need-returns
+returns c =
+    let b = c .before .before .before in
+    let a = b .before .before .args in
+    let p = b .before .before .pre in
+    c .no-frames .ensures ∙ own-short (a .s .now) (a .k) (a .f) (p .0) (p .1 .1) (p .1 .2) (short-was _ _ (sym (b .size-at .ensures) ∙ c .before .enum-told .given .1))
+
+sub-if1 : tie.Need-sub-if1
+sub-if1 c =
+    let b = c .before .before .before in
+    whole-was _ _ _ _ (sym (b .before .before .size-at .ensures) ∙ b .size .given .1) .within
+
+returns-2 : tie.Need-returns-2
+returns-2 c =
+    let b = c .before .before .before .before .before in
+    let a = b .before .before .before .before .args in
+    let p = b .before .before .before .before .pre in
+    c .no-frames2 .ensures
+    ∙ own-over (a .s .now) (a .k) (a .f) (p .0) (p .1 .1) (p .1 .2) _ _ _ (whole-was _ _ _ _ (sym (b .before .before .size-at .ensures) ∙ b .size .given .1))
+    (c .before .before .before .wide .ensures .0) (c .before .if1 .taken)
+
+returns-3 : tie.Need-returns-3
+returns-3 c =
+    let b = c .before .before .before .before .before in
+    let a = b .before .before .before .before .args in
+    let p = b .before .before .before .before .pre in
+    own-read (a .s .now) (a .k) (a .f) (p .0) (p .1 .1) (p .1 .2) _ _ _ (whole-was _ _ _ _ (sym (b .before .before .size-at .ensures) ∙ b .size .given .1))
+    (c .before .before .before .wide .ensures .0) (p .1 .0) (c .before .if1 .left)
+
+pub own-last-spec : {M : Type 1} → statement M
+own-last-spec =
+    tie.close
+    (tie.spec
+    (λ c κs. search needs)
+    (λ c. search needs)
+    (λ c. search needs)
+    (λ c κs. search needs)
+    returns
+    (λ c κs. search needs)
+    (λ c. search needs)
+    sub-if1
+    (λ c κs. search needs)
+    returns-2
+    (λ c. search needs)
+    (λ c. search needs)
+    (λ c. search needs)
+    returns-3)

@@ -1,0 +1,39 @@
+-- `opus::rest_last` meets its contract: the last frame's length is what the others leave.
+-- Assumes nothing.
+use mathlib.Core.Path.{_∙_}
+use borrow.Author.Needs.{needs}
+use Rattle.opus.proofs.AtFrames.{sizes-inside, rest-long, rest-read}
+use Rattle.opus.proofs.rest_last.Statement.{statement}
+use Rattle.opus.proofs.rest_last.Tie as tie
+
+sub-left : tie.Need-sub-left
+sub-left c =
+    let a = c .before .before .args in
+    let p = c .before .before .pre in
+    sizes-inside (a .s .now) (a .k) (a .f) (p .0) (p .1 .1)
+
+returns : tie.Need-returns
+returns c =
+    let a = c .before .before .before .before .before .args in
+    let p = c .before .before .before .before .before .pre in
+    c .no-frames .ensures ∙ rest-long (a .s .now) (a .k) (a .f) (p .0) (p .1 .1) (p .1 .2) (c .before .if1 .taken)
+
+returns-2 : tie.Need-returns-2
+returns-2 c =
+    let a = c .before .before .before .before .before .args in
+    let p = c .before .before .before .before .before .pre in
+    rest-read (a .s .now) (a .k) (a .f) (p .0) (p .1 .1) (p .1 .2) (p .1 .0) (c .before .if1 .left)
+
+pub rest-last-spec : {M : Type 1} → statement M
+rest-last-spec =
+    tie.close
+    (tie.spec
+    sub-left
+    (λ c. search needs)
+    (λ c κs. search needs)
+    returns
+    (λ c. search needs)
+    (λ c. search needs)
+    (λ c. search needs)
+    (λ c. search needs)
+    returns-2)

@@ -1,0 +1,3 @@
+pub mod Header
+pub mod Compact
+pub mod Sums

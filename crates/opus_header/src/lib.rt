@@ -1,0 +1,169 @@
+// The one header writer: the bytes in front of the frames, for every form that a packet is written in.
+ghost use mathlib.Core.Path.{_≡_};
+ghost use mathlib.Core.Bool.{cond};
+ghost use Prim.Native.Nat.{_+_, _*_, _<_, _≤_};
+ghost use lib.Dec.{eqb};
+ghost use lib.ListN.{length};
+ghost use lib.Seq.{sets};
+ghost use Rattle.opus_size.specs.Size.{mostBytes, lengthFields};
+ghost use Rattle.opus_toc.specs.Toc.{upperSix};
+ghost use Rattle.opus.specs.Frames.{longest};
+ghost use Rattle.opus_header.specs.Header.{chain, shortCode, fullFront};
+ghost use Rattle.opus_header.specs.Sums.{sumsOf, frontOf, headerOf};
+
+// What is counted of the lengths before anything is written.
+pub struct Sums {
+    // The frames' bytes, and the bytes of the length fields in front of them.
+    pub total: usize,
+    pub sizes: usize,
+    pub same: bool,
+    pub last: usize,
+}
+
+// The form of a packet: codes 0 to 2, or code 3 with so many missing bytes.
+pub enum Form {
+    Short,
+    Full(usize),
+}
+
+fn wide(x: u16) -> usize
+    ensures { λ r. ⌜ (r ≡ x) × (r < 65536) ⌝ }
+{
+    x as usize
+}
+
+pub fn sums_of(ns: &[u16]) -> Sums
+    requires { ⌜ (1 ≤ length (now ns)) × (length (now ns) ≤ 48) ⌝ }
+    ensures { λ r. ⌜ r ≡ sumsOf (now (ns .entry)) ⌝ }
+{
+    let first = wide(ns[0]);
+    let last = wide(ns[ns.len() - 1]);
+    let mut total: usize = 0;
+    let mut fields: usize = 0;
+    let mut same = true;
+    let mut i: usize = 0;
+    while i < ns.len() {
+        let n = wide(ns[i]);
+        total += n;
+        fields += opus_size::size_bytes(n);
+        if n != first {
+            same = false;
+        }
+        i += 1;
+    }
+    Sums {
+        total,
+        sizes: if same {
+            0
+        } else {
+            fields - opus_size::size_bytes(last)
+        },
+        same,
+        last,
+    }
+}
+
+// The length fields of all of `ns`, one behind another.
+fn put_sizes(data: &mut [u8], at: usize, ns: &[u16]) -> usize
+    requires { ⌜ (longest (now ns) ≤ mostBytes) × (at + length (lengthFields (now ns)) ≤ length (now «data»)) ⌝ }
+    ensures bytes { λ _. ⌜ now («data» .exit) ≡ sets (now («data» .entry)) at (lengthFields (now (ns .entry))) ⌝ }
+    ensures next { λ r. ⌜ r ≡ at + length (lengthFields (now (ns .entry))) ⌝ }
+{
+    let mut next = at;
+    let mut i: usize = 0;
+    while i < ns.len() {
+        next = opus_size::put_size(data, next, wide(ns[i]));
+        i += 1;
+    }
+    next
+}
+
+// The padding lengths for `missing` bytes.
+fn put_chain(data: &mut [u8], at: usize, missing: usize) -> usize
+    requires { ⌜ at + length (chain missing) ≤ length (now «data») ⌝ }
+    ensures bytes { λ _. ⌜ now («data» .exit) ≡ sets (now («data» .entry)) at (chain missing) ⌝ }
+    ensures next { λ r. ⌜ r ≡ at + length (chain missing) ⌝ }
+{
+    if missing == 0 {
+        return at;
+    }
+    let more = (missing - 1) / 255;
+    blocks::fill(data, at, more, 255);
+    data[at + more] = (missing - 1 - 255 * more) as u8;
+    at + more + 1
+}
+
+// The flags of the count byte: unequal lengths, and padding.
+fn unequal_flag(same: bool) -> usize
+    ensures { λ r. ⌜ r ≡ 128 * cond same 0 1 ⌝ }
+{
+    if same { 0 } else { 128 }
+}
+
+fn padding_flag(missing: usize) -> usize
+    ensures { λ r. ⌜ r ≡ 64 * cond (eqb missing 0) 0 1 ⌝ }
+{
+    if missing == 0 { 0 } else { 64 }
+}
+
+fn short_code(count: usize, same: bool) -> u8
+    ensures { λ r. ⌜ r ≡ shortCode count same ⌝ }
+{
+    if count < 2 {
+        return 0;
+    }
+    if same { 1 } else { 2 }
+}
+
+// The TOC byte of code 3, the count byte and the padding lengths.
+fn put_full(data: &mut [u8], toc: u8, count: usize, same: bool, missing: usize) -> usize
+    requires { ⌜ (count ≤ 48) × (2 + length (chain missing) ≤ length (now «data»)) ⌝ }
+    ensures bytes { λ _. ⌜ now («data» .exit) ≡ sets (now («data» .entry)) 0 (fullFront (upperSix toc) count same missing) ⌝ }
+    ensures next { λ r. ⌜ r ≡ length (fullFront (upperSix toc) count same missing) ⌝ }
+{
+    let flags = unequal_flag(same) + padding_flag(missing);
+    data[0] = 4 * (toc / 4) + 3;
+    data[1] = (flags + count) as u8;
+    put_chain(data, 2, missing)
+}
+
+// The TOC byte and what is counted.
+fn put_front(data: &mut [u8], toc: u8, count: usize, same: bool, form: Form) -> usize
+    requires { ⌜ (count ≤ 48) × (length (frontOf (upperSix toc) count same form) ≤ length (now «data»)) ⌝ }
+    ensures bytes { λ _. ⌜ now («data» .exit) ≡ sets (now («data» .entry)) 0 (frontOf (upperSix toc) count same form) ⌝ }
+    ensures next { λ r. ⌜ r ≡ length (frontOf (upperSix toc) count same form) ⌝ }
+{
+    match form {
+        Form::Short => {
+            data[0] = 4 * (toc / 4) + short_code(count, same);
+            1
+        }
+        Form::Full(missing) => put_full(data, toc, count, same, missing),
+    }
+}
+
+// Writes the header of a packet whose lengths `m` counts, with the upper six bits of `toc`, and answers its bytes.
+pub fn put_header(
+    data: &mut [u8],
+    toc: u8,
+    ns: &[u16],
+    m: Sums,
+    form: Form,
+    self_delimited: bool,
+) -> usize
+    requires measured { ⌜ m ≡ sumsOf (now ns) ⌝ }
+    requires some { ⌜ (1 ≤ length (now ns)) × (length (now ns) ≤ 48) × (longest (now ns) ≤ mostBytes) ⌝ }
+    requires room { ⌜ length (headerOf «self_delimited» (upperSix toc) (now ns) form) ≤ length (now «data») ⌝ }
+    ensures bytes { λ _. ⌜ now («data» .exit) ≡ sets (now («data» .entry)) 0 (headerOf «self_delimited» (upperSix toc) (now (ns .entry)) form) ⌝ }
+    ensures next { λ r. ⌜ r ≡ length (headerOf «self_delimited» (upperSix toc) (now (ns .entry)) form) ⌝ }
+{
+    let same = m.same;
+    let mut at = put_front(data, toc, ns.len(), same, form);
+    if !same {
+        at = put_sizes(data, at, &ns[..ns.len() - 1]);
+    }
+    if self_delimited {
+        at = opus_size::put_size(data, at, m.last);
+    }
+    at
+}

@@ -1,0 +1,63 @@
+-- What an add answers, and what it leaves in the store (document 01, 'Collecting and writing'; the order of refusals under 'Return numbers').
+use Prim.Native.Nat.{ℕ, _+_, _*_}
+use mathlib.Core.List.{List}
+use mathlib.Core.Bool.{Bool, cond, _&&_, _||_}
+use lib.Dec.{ltb, leb, eqb}
+use lib.ListN.{length}
+use lib.Seq.{sets}
+use Rattle.opus_defines.specs.declared.Refusal.{Refusal}
+use Rattle.opus_defines.specs.declared.Refusal.the-variants.{BadArg, InvalidPacket, InvalidState}
+use Rattle.opus_defines.specs.declared.Verdict.the-variants.{Accepted, Refused}
+use Rattle.opus_toc.specs.Toc.{upperSix, configuration, samples}
+use Rattle.opus.specs.Frames.{total}
+use Rattle.opus.specs.Reading.{Reading, refused, accepted, read}
+use Rattle.blocks.specs.Blocks.{copied}
+use Rattle.repacketizer.specs.declared.OpusRepacketizer.{OpusRepacketizer}
+use Rattle.repacketizer.specs.declared.Added.{Added}
+use Rattle.repacketizer.specs.Collector.{heldLengths, leastStore, sound}
+
+-- the answer, with the collector handed back, and the store
+pub record Adding : Type 0 where
+  pub answer : Added
+  pub store : List ℕ
+
+-- a refusal hands the collector back as it was, and leaves every byte of the store
+abbrev pub noAdd : Refusal → OpusRepacketizer → List ℕ → Adding
+noAdd e rp store = record { answer = record { verdict = Refused e; rp = rp }; store = store }
+
+-- whether n frames with this TOC byte go with those held: an empty collector takes any, a later packet needs the same upper six TOC
+-- bits and at most 120 ms in all
+abbrev pub goesWith : OpusRepacketizer → ℕ → ℕ → Bool
+goesWith rp toc n =
+    eqb (rp .«nb_frames») 0
+    || (eqb (upperSix toc) (upperSix (rp .toc)) && leb ((rp .«nb_frames» + n) * rp .framesize .0) 960)
+
+-- the collector with frames of these lengths more; the first packet sets the TOC byte
+abbrev pub withFrames : OpusRepacketizer → ℕ → List ℕ → OpusRepacketizer
+withFrames rp toc ns =
+    record {
+      toc = cond (eqb (rp .«nb_frames») 0) toc (rp .toc);
+      «nb_frames» = rp .«nb_frames» + length ns;
+      framesize = cond (eqb (rp .«nb_frames») 0) (record { 0 = samples 8000 (configuration toc) }) (rp .framesize);
+      len = sets (rp .len) (rp .«nb_frames») ns;
+    }
+
+-- the frames of the packet p are copied behind those held as one block
+abbrev pub addRead : OpusRepacketizer → List ℕ → List ℕ → Reading → Adding
+addRead rp p store (refused rule) = noAdd InvalidPacket rp store
+addRead rp p store (accepted toc ns first taken) =
+    cond (goesWith rp toc (length ns))
+    (record {
+      answer = record { verdict = Accepted; rp = withFrames rp toc ns };
+      store = copied store (total (heldLengths rp)) p first (total ns);
+    })
+    (noAdd InvalidPacket rp store)
+
+-- `opus_repacketizer_cat_impl`; `opus_repacketizer_cat` is its ordinary form
+unfoldable pub added : Bool → OpusRepacketizer → List ℕ → List ℕ → Adding
+added sd rp p store =
+    cond (sound rp)
+    (cond (ltb (length store) leastStore) (noAdd BadArg rp store)
+    (cond (ltb 65535 (length p)) (noAdd BadArg rp store)
+    (addRead rp p store (read sd p))))
+    (noAdd InvalidState rp store)

@@ -1,0 +1,4 @@
+pub mod Collector
+pub mod Adding
+pub mod Output
+pub mod Runs

@@ -1,0 +1,47 @@
+-- What the outputs answer, and what they leave in the destination (document 01, 'Collecting and writing').
+use Prim.Native.Nat.{ℕ, _-_}
+use mathlib.Core.List.{List}
+use mathlib.Core.Bool.{Bool, false, cond, _&&_}
+use lib.Dec.{ltb, leb}
+use lib.IntN.{ℤ, pos, negsuc}
+use lib.ListN.{length, take, drop}
+use Rattle.opus_defines.specs.Outcome.{Outcome, refuses, writes}
+use Rattle.opus_defines.specs.declared.Refusal.the-variants.{BadArg, BufferTooSmall, InvalidState}
+use Rattle.opus_toc.specs.Toc.{upperSix}
+use Rattle.opus_header.specs.Compact.{compact, filling}
+use Rattle.repacketizer.specs.declared.OpusRepacketizer.{OpusRepacketizer}
+use Rattle.repacketizer.specs.Collector.{held, leastStore, sound}
+
+-- frames begin to end - 1
+abbrev pub range : {A : Type 0} → ℕ → ℕ → List A → List A
+range begin end l = take (end - begin) (drop begin l)
+
+-- the packet that is written: with padding asked for it fills m bytes
+abbrev pub outPacket : Bool → Bool → ℕ → List (List ℕ) → ℕ → List ℕ
+outPacket sd pad six frames m = cond pad (filling sd six frames m) (compact sd six frames)
+
+-- refused for room exactly where the compact packet is longer than the destination
+unfoldable pub output : Bool → Bool → ℕ → List (List ℕ) → List ℕ → Outcome
+output sd pad six frames dst =
+    cond (ltb (length dst) (length (compact sd six frames))) (refuses BufferTooSmall dst)
+    (writes (outPacket sd pad six frames (length dst)) dst)
+
+-- 0 <= begin < end <= held
+abbrev pub outFrames : Bool → Bool → ℕ → List (List ℕ) → ℤ → ℤ → List ℕ → Outcome
+outFrames sd pad six frames (negsuc b) end dst = refuses BadArg dst
+outFrames sd pad six frames (pos b) (negsuc e) dst = refuses BadArg dst
+outFrames sd pad six frames (pos b) (pos e) dst =
+    cond (ltb b e && leb e (length frames)) (output sd pad six (range b e frames) dst) (refuses BadArg dst)
+
+-- `opus_repacketizer_out_range_impl`; `opus_repacketizer_out_range` is its unpadded ordinary form
+unfoldable pub outRange : Bool → Bool → OpusRepacketizer → List ℕ → ℤ → ℤ → List ℕ → Outcome
+outRange sd pad rp store begin end dst =
+    cond (sound rp)
+    (cond (ltb (length store) leastStore) (refuses BadArg dst)
+    (cond (ltb 65535 (length dst)) (refuses BadArg dst)
+    (outFrames sd pad (upperSix (rp .toc)) (held rp store) begin end dst)))
+    (refuses InvalidState dst)
+
+-- `opus_repacketizer_out`
+abbrev pub outAll : OpusRepacketizer → List ℕ → List ℕ → Outcome
+outAll rp store dst = outRange false false rp store (pos 0) (pos (rp .«nb_frames»)) dst
