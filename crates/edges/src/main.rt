@@ -34,20 +34,24 @@ fn refusal(e: Refusal) {
     number(opus_defines::refusal_number(e));
 }
 
+fn one_size(n: u16) {
+    text(b" ");
+    decimal(n as usize);
+}
+
 // The lengths of the frames, each behind a space.
 fn sizes(lengths: &[u16; 48], count: usize) {
     let mut i: usize = 0;
     while i < 48 {
         if i < count {
-            text(b" ");
-            decimal(wide(lengths[i]));
+            one_size(lengths[i]);
         }
         i += 1;
     }
 }
 
-fn wide(x: u16) -> usize {
-    x as usize
+fn hex(b: u8) {
+    io::print_hex(STDOUT_FILENO, b as u64, 2);
 }
 
 fn packet(p: Packet) {
@@ -92,11 +96,11 @@ fn encode(size: i32) {
     text(b": ");
     number(opus_size::encode_size(size, &mut out));
     text(b", ");
-    io::print_hex(STDOUT_FILENO, out[0] as u64, 2);
+    hex(out[0]);
     text(b" ");
-    io::print_hex(STDOUT_FILENO, out[1] as u64, 2);
+    hex(out[1]);
     text(b" ");
-    io::print_hex(STDOUT_FILENO, out[2] as u64, 2);
+    hex(out[2]);
     text(b"\n");
 }
 
