@@ -1,3 +1,4 @@
 pub mod Header
 pub mod Compact
 pub mod Sums
+pub mod Forms

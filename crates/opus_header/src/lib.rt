@@ -8,8 +8,10 @@ ghost use lib.Seq.{sets};
 ghost use Rattle.opus_size.specs.Size.{mostBytes, lengthFields};
 ghost use Rattle.opus_toc.specs.Toc.{upperSix};
 ghost use Rattle.opus.specs.Frames.{longest};
+ghost use Rattle.opus.specs.Format.{ownLength};
 ghost use Rattle.opus_header.specs.Header.{chain, shortCode, fullFront};
 ghost use Rattle.opus_header.specs.Sums.{sumsOf, frontOf, headerOf};
+ghost use Rattle.opus_header.specs.Forms.{compactForm, formFor, frontBytes, headerBytes, compactBytes, missing};
 
 // What is counted of the lengths before anything is written.
 pub struct Sums {
@@ -166,4 +168,79 @@ pub fn put_header(
         at = opus_size::put_size(data, at, m.last);
     }
     at
+}
+
+// ---- bytes and forms, before anything is written
+
+// The bytes of the padding lengths for `missing` bytes.
+fn chain_bytes(missing: usize) -> usize
+    ensures { λ r. ⌜ r ≡ length (chain missing) ⌝ }
+{
+    if missing == 0 {
+        return 0;
+    }
+    (missing - 1) / 255 + 1
+}
+
+fn front_bytes(form: Form) -> usize
+    requires { ⌜ missing form ≤ 65535 ⌝ }
+    ensures { λ r. ⌜ r ≡ frontBytes form ⌝ }
+{
+    match form {
+        Form::Short => 1,
+        Form::Full(missing) => 2 + chain_bytes(missing),
+    }
+}
+
+// The bytes of the self-delimited form's length.
+fn own_bytes(last: usize, self_delimited: bool) -> usize
+    ensures { λ r. ⌜ r ≡ length (ownLength «self_delimited» last) ⌝ }
+{
+    if self_delimited {
+        return opus_size::size_bytes(last);
+    }
+    0
+}
+
+// The bytes of the header that `put_header` writes.
+pub fn header_bytes(m: Sums, form: Form, self_delimited: bool) -> usize
+    requires { ⌜ (m .sizes ≤ 96) × (missing form ≤ 65535) ⌝ }
+    ensures { λ r. ⌜ r ≡ headerBytes m form «self_delimited» ⌝ }
+{
+    front_bytes(form) + (m.sizes + own_bytes(m.last, self_delimited))
+}
+
+// The form of the compact packet.
+fn compact_form(count: usize) -> Form
+    ensures { λ r. ⌜ r ≡ compactForm count ⌝ }
+{
+    if count < 3 {
+        return Form::Short;
+    }
+    Form::Full(0)
+}
+
+// The bytes of the compact packet: its header and the frames.
+pub fn compact_bytes(count: usize, m: Sums, self_delimited: bool) -> usize
+    requires { ⌜ (m .sizes ≤ 96) × (m .total ≤ 61200) ⌝ }
+    ensures { λ r. ⌜ r ≡ compactBytes count m «self_delimited» ⌝ }
+{
+    header_bytes(m, compact_form(count), self_delimited) + m.total
+}
+
+// The form of a packet whose compact form has `need` bytes; with padding asked for it fills the room.
+pub fn form_for(count: usize, need: usize, room: usize, pad: bool) -> Form
+    requires { ⌜ need ≤ room ⌝ }
+    ensures { λ r. ⌜ r ≡ formFor count need room pad ⌝ }
+{
+    if !pad {
+        return compact_form(count);
+    }
+    if room <= need {
+        return compact_form(count);
+    }
+    if count < 3 {
+        return Form::Full(room - (need + 1));
+    }
+    Form::Full(room - (need + 0))
 }

@@ -1,0 +1,9 @@
+pub mod Lengths
+pub mod Chain
+pub mod Put
+pub mod Sizes
+pub mod Counted
+pub mod Spelled
+pub mod Shortest
+pub mod Filling
+pub mod Forms
