@@ -1,42 +1,16 @@
 // Runs document 01's cases at the edges for the length fields, the TOC byte and the reader through the compiled code.
 // A line is a case: what was called, and what it answered.
-use libc::STDOUT_FILENO;
 use opus::Packet;
-use opus_defines::Count;
 use opus_defines::Refusal;
 use opus_defines::Verdict;
 
-fn text(s: &[u8]) {
-    io::write_all(STDOUT_FILENO, s);
-}
-
-fn decimal(n: usize) {
-    io::print_decimal(STDOUT_FILENO, n as u64);
-}
-
-// A number that a call returned.
-fn number(n: i32) {
-    let Count::Is(k) = opus_defines::count_of(n) else {
-        match n {
-            -1 => text(b"-1"),
-            -2 => text(b"-2"),
-            -3 => text(b"-3"),
-            -4 => text(b"-4"),
-            -6 => text(b"-6"),
-            _ => text(b"unknown"),
-        }
-        return;
-    };
-    decimal(k);
-}
-
 fn refusal(e: Refusal) {
-    number(opus_defines::refusal_number(e));
+    show::number(opus_defines::refusal_number(e));
 }
 
 fn one_size(n: u16) {
-    text(b" ");
-    decimal(n as usize);
+    show::text(b" ");
+    show::decimal(n as usize);
 }
 
 // The lengths of the frames, each behind a space.
@@ -50,93 +24,89 @@ fn sizes(lengths: &[u16; 48], count: usize) {
     }
 }
 
-fn hex(b: u8) {
-    io::print_hex(STDOUT_FILENO, b as u64, 2);
-}
-
 fn packet(p: Packet) {
     let v = p.verdict;
     let Verdict::Refused(e) = v else {
-        text(b"toc ");
-        decimal(p.toc as usize);
-        text(b" first ");
-        decimal(p.first);
-        text(b" taken ");
-        decimal(p.taken);
-        text(b" count ");
-        decimal(p.count);
+        show::text(b"toc ");
+        show::decimal(p.toc as usize);
+        show::text(b" first ");
+        show::decimal(p.first);
+        show::text(b" taken ");
+        show::decimal(p.taken);
+        show::text(b" count ");
+        show::decimal(p.count);
         let lengths = p.lengths;
         sizes(&lengths, p.count);
-        text(b"\n");
+        show::text(b"\n");
         return;
     };
     refusal(e);
-    text(b"\n");
+    show::text(b"\n");
 }
 
 fn read(name: &[u8], data: &[u8]) {
-    text(b"read ");
-    text(name);
-    text(b": ");
+    show::text(b"read ");
+    show::text(name);
+    show::text(b": ");
     packet(opus::opus_packet_parse(data));
 }
 
 fn read_self(name: &[u8], data: &[u8]) {
-    text(b"read self-delimited ");
-    text(name);
-    text(b": ");
+    show::text(b"read self-delimited ");
+    show::text(name);
+    show::text(b": ");
     packet(opus::opus_packet_parse_impl(data, true));
 }
 
 // A size into a buffer of three bytes that hold 238.
 fn encode(size: i32) {
     let mut out = [238u8; 3];
-    text(b"encode ");
-    number(size);
-    text(b": ");
-    number(opus_size::encode_size(size, &mut out));
-    text(b", ");
-    hex(out[0]);
-    text(b" ");
-    hex(out[1]);
-    text(b" ");
-    hex(out[2]);
-    text(b"\n");
+    show::text(b"encode ");
+    show::number(size);
+    show::text(b": ");
+    show::number(opus_size::encode_size(size, &mut out));
+    show::text(b", ");
+    show::byte(out[0]);
+    show::text(b" ");
+    show::byte(out[1]);
+    show::text(b" ");
+    show::byte(out[2]);
+    show::text(b"\n");
 }
 
 fn parse(name: &[u8], data: &[u8]) {
-    text(b"parse ");
-    text(name);
-    text(b": ");
+    show::text(b"parse ");
+    show::text(name);
+    show::text(b": ");
     let s = opus_size::parse_size(data);
     let v = s.verdict;
     let Verdict::Refused(e) = v else {
-        decimal(s.bytes);
-        text(b" ");
-        decimal(s.size as usize);
-        text(b"\n");
+        show::decimal(s.bytes);
+        show::text(b" ");
+        show::decimal(s.size as usize);
+        show::text(b"\n");
         return;
     };
     refusal(e);
-    text(b"\n");
+    show::text(b"\n");
 }
 
 fn samples(name: &[u8], data: &[u8], rate: i32) {
-    text(b"samples ");
-    text(name);
-    text(b" at ");
-    number(rate);
-    text(b": ");
-    number(opus_toc::opus_packet_get_samples_per_frame(data, rate));
-    text(b"\n");
+    show::text(b"samples ");
+    show::text(name);
+    show::text(b" at ");
+    show::number(rate);
+    show::text(b": ");
+    show::number(opus_toc::opus_packet_get_samples_per_frame(data, rate));
+    show::text(b"\n");
 }
 
 fn frames(name: &[u8], data: &[u8]) {
-    text(b"frames ");
-    text(name);
-    text(b": ");
-    number(opus_toc::opus_packet_get_nb_frames(data));
-    text(b"\n");
+    show::text(b"frames ");
+    show::text(name);
+    show::text(b": ");
+    show::number(opus_toc::opus_packet_get_nb_frames(data));
+    show::text(b"\n");
 }
 
 fn length_cases() {

@@ -6,7 +6,8 @@ pub mod Counts
 pub mod Complete
 pub mod Sound
 pub mod Facts
-pub mod Examples
+pub mod Lengths
+pub mod Parsed
 pub mod AtSizes
 pub mod AtPadding
 pub mod AtFrames

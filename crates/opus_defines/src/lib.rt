@@ -4,6 +4,9 @@ ghost use mathlib.Core.Path.{_≡_};
 ghost use Prim.Native.Nat.{ℕ, _<_, _^_};
 ghost use Rattle.opus_defines.specs.Numbers.{refusalNumber, numberOf, countOf};
 
+// Added, padded, nothing to pad.
+pub const OPUS_OK: u16 = 0;
+
 // Why a call refuses. One type for the whole project, so that a refusal can later carry more than its number.
 pub enum Refusal {
     BadArg,

@@ -14,7 +14,8 @@ use Rattle.opus.specs.Frames.{total}
 use Rattle.opus.proofs.Frames.{total-snoc}
 use Rattle.opus_header.specs.Header.{allAre, same, firsts, last, sizes}
 use Rattle.opus_header.specs.Sums.{sumsOf}
-use Rattle.opus_header.proofs.Lengths.{firsts-whole, last-at, take-next, same-all, all-agree, all-differ}
+use Rattle.opus.proofs.Lengths.{take-next}
+use Rattle.opus_header.proofs.Lengths.{firsts-whole, last-at, same-all, all-agree, all-differ}
 use Rattle.opus_header.proofs.Sizes.{fields-append, fields-next}
 
 -- of ns the first i are counted: their sum t, the bytes f of their fields, and whether all are the first; with bounds of the two numbers

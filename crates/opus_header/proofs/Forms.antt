@@ -4,7 +4,6 @@
 --     form-packet                     the packet that is written for a range is that of the form chosen for it
 -- Assumes nothing.
 use Prim.Native.Nat.{ℕ, zero, suc, _+_, _*_, _-_, _≤_, _<_}
-use native.Mathlib.Nat.{mul-le-mul, mul-le-mul-left}
 use native.Mathlib.Omega.{arith}
 use mathlib.Core.Path.{_≡_, refl, sym, ap, _∙_}
 use mathlib.Core.List.{List, [], _∷_, _++_, append-nil}
@@ -17,6 +16,7 @@ use Rattle.opus_size.specs.Size.{mostBytes, lengthField, lengthFields}
 use Rattle.opus_size.proofs.Fields.{width}
 use Rattle.opus.specs.Frames.{lengths, joined, total, longest}
 use Rattle.opus.specs.Format.{ownLength}
+use Rattle.opus.proofs.Lengths.{total-most}
 use Rattle.opus_header.specs.Header.{same, firsts, last, sizes, chain, padBytes, header, compactHeader, fullHeader}
 use Rattle.opus_header.specs.Compact.{compact, full, filling}
 use Rattle.opus_header.specs.Sums.{sumsOf, frontOf, headerOf}
@@ -68,12 +68,6 @@ unfolding compact
 compact-size sd six frames = length-append (compactHeader sd six (lengths frames)) (joined frames)
 
 -- ---- how large the sums can be
-total-most : (ns : List ℕ) → total ns ≤ length ns * longest ns
-total-most [] = omega arith
-total-most (n ∷ ns) =
-    let less : length ns * longest ns ≤ length ns * longest (n ∷ ns) = mul-le-mul-left (length ns) (omega arith) in
-    omega (arith, total-most ns)
-
 fields-most : (ns : List ℕ) → length (lengthFields ns) ≤ 2 * length ns
 fields-most [] = omega arith
 fields-most (n ∷ ns) = omega (arith, fields-most ns, width n, length-append (lengthField n) (lengthFields ns))
@@ -88,7 +82,7 @@ sizes-most ns = by-test (same ns) (λ e. rw e (omega arith)) (λ e. rw e (omega 
 
 -- 48 frames of at most 1275 bytes
 pub total-few : (ns : List ℕ) → length ns ≤ 48 → longest ns ≤ mostBytes → total ns ≤ 61200
-total-few ns h k = omega (arith, total-most ns, mul-le-mul {n₁ = length ns} {m₁ = longest ns} {n₂ = 48} {m₂ = 1275} h k)
+total-few ns h k = omega (arith, total-most ns k)
 
 pub sums-few : (ns : List ℕ) (m : Sums) → m ≡ sumsOf ns → length ns ≤ 48 → longest ns ≤ mostBytes → (m .sizes ≤ 96) × (m .total ≤ 61200)
 unfolding sumsOf

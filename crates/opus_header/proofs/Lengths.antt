@@ -1,23 +1,21 @@
 -- Lengths of frames: all but the last and the last, and lengths that are all the same.
 --     firsts-last, firsts-whole, firsts-count, firsts-snoc, last-snoc     all but the last, and the last
---     firsts-take, last-at, longest-at, longest-take, last-most           the same by places
---     take-next                                                           one length more
+--     firsts-take, last-at, last-most                                     the same by places
 --     same-replicate, replicate-same, replicate-last                      lengths that are all the same
 --     same-all, all-agree, all-differ                                     one length more that agrees, or does not
 -- Assumes nothing.
 use Prim.Native.Nat.{ℕ, zero, suc, _+_, _-_, _≤_, _<_}
 use native.Mathlib.Omega.{arith}
-use native.Mathlib.Numerals.{add-one}
 use mathlib.Core.Path.{_≡_, refl, ap}
 use mathlib.Core.List.{List, [], _∷_, _++_}
 use mathlib.Core.Bool.{true, false}
 use lib.Dec.{eqb}
 use lib.ListN.{length, replicate, getD, take, length-append}
-use lib.Seq.{take-suc}
 use borrow.Author.Tests.{eqb-true, eq-eqb, ne-eqb}
 use Rattle.laws.proofs.Never.{by-test}
 use Rattle.laws.proofs.Every.{both-left, both-right}
 use Rattle.opus.specs.Frames.{longest}
+use Rattle.opus.proofs.Lengths.{longest-at}
 use Rattle.opus_header.specs.Header.{allAre, same, firsts, last}
 
 -- ---- all but the last, and the last
@@ -57,21 +55,8 @@ last-at (n ∷ m ∷ ns) =
     let e : length (n ∷ m ∷ ns) - 1 ≡ suc (length (m ∷ ns) - 1) = omega arith in
     rw e (last-at (m ∷ ns))
 
-pub longest-at : (ns : List ℕ) (i : ℕ) → i < length ns → getD ns i 0 ≤ longest ns
-longest-at [] i h = absurd (omega arith)
-longest-at (n ∷ ns) zero h = omega arith
-longest-at (n ∷ ns) (suc i) h = omega (arith, longest-at ns i (omega arith))
-
-pub longest-take : (ns : List ℕ) (i : ℕ) → longest (take i ns) ≤ longest ns
-longest-take ns zero = omega arith
-longest-take [] (suc i) = omega arith
-longest-take (n ∷ ns) (suc i) = omega (arith, longest-take ns i)
-
 pub last-most : (ns : List ℕ) → 1 ≤ length ns → last ns ≤ longest ns
 last-most ns h = omega (arith, last-at ns, longest-at ns (length ns - 1) (omega arith))
-
-pub take-next : (ns : List ℕ) (i : ℕ) → i < length ns → take (i + 1) ns ≡ take i ns ++ (getD ns i 0 ∷ [])
-take-next ns i h = rw (add-one, take-suc ns i 0)
 
 -- ---- lengths that are all the same
 all-replicate : (n : ℕ) (ns : List ℕ) → allAre n ns ≡ true → ns ≡ replicate (length ns) n

@@ -9,7 +9,7 @@ ghost use Rattle.opus_size.specs.Size.{mostBytes, lengthFields};
 ghost use Rattle.opus_toc.specs.Toc.{upperSix};
 ghost use Rattle.opus.specs.Frames.{longest};
 ghost use Rattle.opus.specs.Format.{ownLength};
-ghost use Rattle.opus_header.specs.Header.{chain, shortCode, fullFront};
+ghost use Rattle.opus_header.specs.Header.{chain, padBytes, shortCode, fullFront};
 ghost use Rattle.opus_header.specs.Sums.{sumsOf, frontOf, headerOf};
 ghost use Rattle.opus_header.specs.Forms.{compactForm, formFor, frontBytes, headerBytes, compactBytes, missing};
 
@@ -182,6 +182,16 @@ fn chain_bytes(missing: usize) -> usize
     (missing - 1) / 255 + 1
 }
 
+// The padding bytes behind the frames.
+pub fn pad_bytes(form: Form) -> usize
+    ensures { λ r. ⌜ r ≡ padBytes (missing form) ⌝ }
+{
+    match form {
+        Form::Short => 0,
+        Form::Full(missing) => missing - chain_bytes(missing),
+    }
+}
+
 fn front_bytes(form: Form) -> usize
     requires { ⌜ missing form ≤ 65535 ⌝ }
     ensures { λ r. ⌜ r ≡ frontBytes form ⌝ }
@@ -211,7 +221,7 @@ pub fn header_bytes(m: Sums, form: Form, self_delimited: bool) -> usize
 }
 
 // The form of the compact packet.
-fn compact_form(count: usize) -> Form
+pub fn compact_form(count: usize) -> Form
     ensures { λ r. ⌜ r ≡ compactForm count ⌝ }
 {
     if count < 3 {

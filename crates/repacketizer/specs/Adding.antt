@@ -22,8 +22,11 @@ pub record Adding : Type 0 where
   pub store : List ℕ
 
 -- a refusal hands the collector back as it was, and leaves every byte of the store
+abbrev pub refusedAdd : Refusal → OpusRepacketizer → Added
+refusedAdd e rp = record { verdict = Refused e; rp = rp }
+
 abbrev pub noAdd : Refusal → OpusRepacketizer → List ℕ → Adding
-noAdd e rp store = record { answer = record { verdict = Refused e; rp = rp }; store = store }
+noAdd e rp store = record { answer = refusedAdd e rp; store = store }
 
 -- whether n frames with this TOC byte go with those held: an empty collector takes any, a later packet needs the same upper six TOC
 -- bits and at most 120 ms in all
@@ -42,10 +45,9 @@ withFrames rp toc ns =
       len = sets (rp .len) (rp .«nb_frames») ns;
     }
 
--- the frames of the packet p are copied behind those held as one block
-abbrev pub addRead : OpusRepacketizer → List ℕ → List ℕ → Reading → Adding
-addRead rp p store (refused rule) = noAdd InvalidPacket rp store
-addRead rp p store (accepted toc ns first taken) =
+-- frames of lengths ns, at place `first` of the packet p, are copied behind those held as one block
+unfoldable pub addBlock : OpusRepacketizer → ℕ → List ℕ → List ℕ → ℕ → List ℕ → Adding
+addBlock rp toc ns p first store =
     cond (goesWith rp toc (length ns))
     (record {
       answer = record { verdict = Accepted; rp = withFrames rp toc ns };
@@ -53,11 +55,17 @@ addRead rp p store (accepted toc ns first taken) =
     })
     (noAdd InvalidPacket rp store)
 
+abbrev pub addRead : OpusRepacketizer → List ℕ → List ℕ → Reading → Adding
+addRead rp p store (refused rule) = noAdd InvalidPacket rp store
+addRead rp p store (accepted toc ns first taken) = addBlock rp toc ns p first store
+
+-- a packet over 65,535 bytes is refused before it is read
+unfoldable pub addPacket : Bool → OpusRepacketizer → List ℕ → List ℕ → Adding
+addPacket sd rp p store = cond (ltb 65535 (length p)) (noAdd BadArg rp store) (addRead rp p store (read sd p))
+
 -- `opus_repacketizer_cat_impl`; `opus_repacketizer_cat` is its ordinary form
 unfoldable pub added : Bool → OpusRepacketizer → List ℕ → List ℕ → Adding
 added sd rp p store =
     cond (sound rp)
-    (cond (ltb (length store) leastStore) (noAdd BadArg rp store)
-    (cond (ltb 65535 (length p)) (noAdd BadArg rp store)
-    (addRead rp p store (read sd p))))
+    (cond (ltb (length store) leastStore) (noAdd BadArg rp store) (addPacket sd rp p store))
     (noAdd InvalidState rp store)

@@ -1,0 +1,104 @@
+-- Frames that stand in a buffer, and the packet that is written for them.
+--     Lies, lies                          what is known of a packet that was read in the first bytes of a buffer
+--     few-missing, compact-needs          the form that is chosen, and the compact packet's bytes
+--     laid, compact-room, padded-room     the packet that the form gives, which fits where there is room
+-- Assumes nothing.
+use Prim.Native.Nat.{ℕ, _+_, _≤_}
+use native.Mathlib.Omega.{arith}
+use mathlib.Core.Path.{_≡_, refl, sym}
+use mathlib.Core.List.{List, [], _∷_, _++_}
+use mathlib.Core.Bool.{Bool, true, false, cond}
+use lib.Dec.{ltb}
+use lib.ListN.{length, take, drop, length-drop, take-append-drop}
+use lib.Seq.{sets, take-append-le, drop-append-le, length-take-le}
+use Rattle.laws.specs.Bytes.{Bytes}
+use Rattle.laws.proofs.Never.{by-test}
+use Rattle.laws.proofs.Bytes.{bytes-take}
+use Rattle.blocks.specs.Blocks.{part}
+use Rattle.blocks.proofs.Sets.{length-part}
+use Rattle.opus_defines.specs.declared.Verdict.the-variants.{Accepted}
+use Rattle.opus_size.specs.Size.{mostBytes}
+use Rattle.opus_toc.specs.Toc.{upperSix}
+use Rattle.opus.specs.Frames.{lengths, cut, total, longest}
+use Rattle.opus.specs.Reading.{accepted, read}
+use Rattle.opus.specs.Answers.{parsed}
+use Rattle.opus.specs.declared.Packet.{Packet}
+use Rattle.opus.proofs.Frames.{joined-cut, lengths-cut}
+use Rattle.opus.proofs.Facts.{facts}
+use Rattle.opus.proofs.Sound.{read-spelled}
+use Rattle.opus_header.specs.Header.{compactHeader}
+use Rattle.opus_header.specs.Compact.{compact, filling}
+use Rattle.opus_header.specs.Sums.{sumsOf}
+use Rattle.opus_header.specs.Forms.{formFor, compactBytes, missing, formPacket}
+use Rattle.opus_header.specs.declared.Sums.{Sums}
+use Rattle.opus_header.specs.declared.Form.{Form}
+use Rattle.opus_header.proofs.Forms.{compact-missing, compact-bytes, compact-size, packet-formed}
+use Rattle.opus_header.proofs.Filling.{filling-length}
+use Rattle.opus_header.proofs.Shortest.{header-shortest}
+use Rattle.opus.proofs.Lengths.{cut-take}
+use Rattle.opus.proofs.Parsed.{lengthsOf, parsed-accepted}
+
+-- ---- a packet that was read in the first `len` bytes of the buffer s, with the reader's answer r
+pub record Lies (sd : Bool) (s : List ℕ) (len : ℕ) (r : Packet) : Type 0 where
+  pub inside : r .count ≤ length (r .lengths)
+  pub means : read sd (take len s) ≡ accepted (r .toc) (lengthsOf r) (r .first) (r .taken)
+  pub some : (1 ≤ length (lengthsOf r)) × (length (lengthsOf r) ≤ 48) × (longest (lengthsOf r) ≤ mostBytes)
+  pub within : r .first + total (lengthsOf r) ≤ len
+  -- the compact header is no longer than the one that was read
+  pub short : length (compactHeader sd (upperSix (r .toc)) (lengthsOf r)) ≤ r .first
+  pub frames : cut (lengthsOf r) (drop (r .first) (take len s)) ≡ cut (lengthsOf r) (drop (r .first) s)
+
+pub lies : (sd : Bool) (s : List ℕ) (len : ℕ) (r : Packet) → Bytes s → len ≤ length s → r ≡ parsed sd (take len s) → r .verdict ≡ Accepted → Lies sd s len r
+lies sd s len r bytes h e v =
+    let p = take len s in
+    let long : length p ≡ len = length-take-le len s h in
+    let d = parsed-accepted sd p r e v in
+    let ns = lengthsOf r in
+    let f = facts sd p (r .toc) ns (r .first) (r .taken) (bytes-take len s bytes) (d .means) in
+    let w = read-spelled sd p (r .toc) ns (r .first) (r .taken) (bytes-take len s bytes) (d .means) in
+    let within : r .first + total ns ≤ len = omega (arith, f .block, f .within) in
+    record {
+      inside = d .inside;
+      means = d .means;
+      some = (f .some, f .few, f .small);
+      within = within;
+      short = omega (arith, w .place, rw (w .lengths-are) at (header-shortest (w .packet .layout)));
+      frames = cut-take ns (r .first) len s within h;
+    }
+
+-- ---- the packet that is written for frames that stand in the buffer s
+-- a form that fills the room misses no more than the room
+pub few-missing : (count need room : ℕ) (pad : Bool) (form : Form) → form ≡ formFor count need room pad → missing form ≤ room
+few-missing count need room false form e = rw e (omega (arith, compact-missing count))
+few-missing count need room true form e =
+    by-test (ltb need room) (λ t. rw (e, t) (omega arith)) (λ t. rw (e, t) (omega (arith, compact-missing count)))
+
+module _ (sd : Bool) (six : ℕ) (ns s : List ℕ) (first : ℕ) (block : first + total ns ≤ length s) where
+  abbrev frames : List (List ℕ)
+  frames = cut ns (drop first s)
+
+  lengths-are : lengths frames ≡ ns
+  lengths-are = lengths-cut ns (drop first s) (omega (arith, length-drop first s))
+
+  -- `need` is counted from the sums m
+  module _ (m : Sums) (e : m ≡ sumsOf ns) (need : ℕ) (n : need ≡ compactBytes (length ns) m sd) where
+    pub compact-needs : length (compact sd six frames) ≡ need
+    compact-needs =
+        rw (compact-size sd six frames, lengths-are, joined-cut ns (drop first s), length-part s first (total ns) block, n)
+        (sym (compact-bytes sd six ns m e))
+
+    written : (room : ℕ) (pad : Bool) (form : Form) → form ≡ formFor (length ns) need room pad → formPacket sd six ns form (part s first (total ns)) ≡ cond pad (filling sd six frames room) (compact sd six frames)
+    written room pad form f =
+        rw (f, ← compact-needs) (sym (rw (lengths-are, joined-cut ns (drop first s)) at (packet-formed sd six frames pad room)))
+
+    -- the buffer after a rewrite
+    pub laid : (room : ℕ) (pad : Bool) (form : Form) → form ≡ formFor (length ns) need room pad → {s′ : List ℕ} → s′ ≡ sets s 0 (formPacket sd six ns form (part s first (total ns))) → s′ ≡ sets s 0 (cond pad (filling sd six frames room) (compact sd six frames))
+    laid room pad form f e = rw (written room pad form f) at e
+
+    -- the compact packet and the padded one fit where there is room
+    pub compact-room : (room : ℕ) (form : Form) → form ≡ formFor (length ns) need room false → need ≤ length s → length (formPacket sd six ns form (part s first (total ns))) ≤ length s
+    compact-room room form f h = rw (written room false form f) (omega (arith, compact-needs))
+
+    pub padded-room : (room : ℕ) (form : Form) → form ≡ formFor (length ns) need room true → need ≤ room → room ≤ length s → length (formPacket sd six ns form (part s first (total ns))) ≤ length s
+    padded-room room form f h k =
+        rw (written room true form f) (omega (arith, filling-length sd six frames room (omega (arith, compact-needs))))

@@ -1,0 +1,69 @@
+-- What a buyer may count on when a packet is padded or stripped of padding where it lies (demand 3).
+-- Assumes nothing.
+use Prim.Native.Nat.{ℕ, _≤_, _<_}
+use native.Mathlib.Omega.{arith}
+use mathlib.Core.Path.{_≡_}
+use mathlib.Core.List.{List}
+use mathlib.Core.Bool.{false}
+use lib.IntN.{ℤ, pos, negsuc}
+use lib.ListN.{length, getD, take, drop}
+use lib.Seq.{length-take-le}
+use Rattle.laws.specs.Bytes.{Bytes}
+use Rattle.laws.proofs.Bytes.{bytes-take}
+use Rattle.opus_defines.specs.Outcome.{writes}
+use Rattle.opus_toc.specs.Toc.{upperSix}
+use Rattle.opus.specs.Frames.{cut}
+use Rattle.opus.specs.Format.{Spells}
+use Rattle.opus.specs.Reading.{accepted, read, framesOf}
+use Rattle.opus_header.specs.Compact.{compact, filling}
+use Rattle.opus_header.proofs.Filling.{filling-length}
+use Rattle.packet_pad.specs.Pad.{padsTo, padded}
+use Rattle.packet_pad.specs.Unpad.{unpadded}
+use Rattle.packet_pad.proofs.Spelled.{read-whole, reads-back, compact-of, filling-of, never-longer, pad-spelled, unpad-spelled, unpad-written}
+use Rattle.packet_pad.proofs.Kept.{kept-by-pad, kept-by-unpad}
+
+-- a packet that the reader accepts, in the first len bytes of a buffer
+module _ (s : List ℕ) (bytes : Bytes s) (len : ℕ) (fits : len ≤ length s) (most : len ≤ 65535) (toc : ℕ) (ns : List ℕ) (first taken : ℕ) (r : read false (take len s) ≡ accepted toc ns first taken) where
+  abbrev six : ℕ
+  six = upperSix toc
+
+  abbrev frames : List (List ℕ)
+  frames = cut ns (drop first (take len s))
+
+  packet : Spells false six (take len s) frames
+  packet = read-whole (take len s) toc ns first taken (bytes-take len s bytes) r
+
+  -- 2. Unpad gives the compact packet of the reader's frames, and never refuses,
+  pub unpad-is-compact : unpadded s (pos len) ≡ writes (compact false six frames) s
+  unpad-is-compact = unpad-spelled s len fits most packet
+
+  -- which is no longer than the packet was,
+  pub unpad-never-grows : length (compact false six frames) ≤ len
+  unpad-never-grows = omega (arith, never-longer packet, length-take-le len s fits)
+
+  -- and reads back as the same frames with the same upper six TOC bits.
+  pub unpadded-reads-back : (framesOf (compact false six frames) (read false (compact false six frames)) ≡ frames) × (upperSix (getD (compact false six frames) 0 0) ≡ six)
+  unpadded-reads-back = reads-back (compact-of packet)
+
+  module _ (new : ℕ) (more : len < new) (room : new ≤ length s) (short : new ≤ 65535) where
+    -- Pad gives the packet of exactly the new length with those frames, and never refuses,
+    pub pad-is-filling : padded s (pos len) (pos new) ≡ padsTo (filling false six frames new) s
+    pad-is-filling = pad-spelled s len fits most packet new more room short
+
+    pub padded-has-the-length : length (filling false six frames new) ≡ new
+    padded-has-the-length = filling-length false six frames new (omega (arith, unpad-never-grows))
+
+    -- and it reads back as the same frames with the same upper six TOC bits.
+    pub padded-reads-back : (framesOf (filling false six frames new) (read false (filling false six frames new)) ≡ frames) × (upperSix (getD (filling false six frames new) 0 0) ≡ six)
+    padded-reads-back = reads-back (filling-of packet new)
+
+    -- 1. Padded and then unpadded, it is what unpadding alone gives: the same packet and the same length.
+    pub pad-then-unpad : unpadded (padded s (pos len) (pos new) .bytes) (pos new) ≡ writes (compact false six frames) (padded s (pos len) (pos new) .bytes)
+    pad-then-unpad = rw pad-is-filling (unpad-written s new padded-has-the-length room short (filling-of packet new))
+
+-- 7. A refusal leaves every byte.
+pub refused-pad-changes-nothing : (s : List ℕ) (len new : ℤ) (n : ℕ) → padded s len new .number ≡ negsuc n → padded s len new .bytes ≡ s
+refused-pad-changes-nothing s len new n e = kept-by-pad s n len new e
+
+pub refused-unpad-changes-nothing : (s : List ℕ) (len : ℤ) (n : ℕ) → unpadded s len .number ≡ negsuc n → unpadded s len .bytes ≡ s
+refused-unpad-changes-nothing s len n e = kept-by-unpad s n len e

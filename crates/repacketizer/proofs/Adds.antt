@@ -1,0 +1,157 @@
+-- How an add goes, by the tests of the code.
+--     goes-none, goes-other, goes-time      whether frames go with those held
+--     with-few, with-timed, with-room       those held and the new ones last at most 120 ms, so they are at most 48 and fit the store
+--     with-first, with-more                 the new collector
+--     block-.., add-..                      an add by each of its tests
+--     Ends, ends, refused-same              the two ways in which an add ends
+-- Assumes nothing.
+use Prim.Native.Nat.{ℕ, _+_, _*_, _≤_, _<_}
+use native.Mathlib.Omega.{arith}
+use mathlib.Core.Path.{_≡_, refl, sym, _∙_}
+use mathlib.Core.List.{List}
+use mathlib.Core.Bool.{Bool, true, false}
+use lib.Dec.{ltb, leb, eqb}
+use lib.ListN.{length}
+use lib.Seq.{sets}
+use borrow.Author.Tests.{eqb-true, eqb-false, lt-ltb, le-ltb, eq-eqb, ne-eqb}
+use Rattle.laws.proofs.Never.{never, by-test}
+use Rattle.laws.proofs.Every.{both-right}
+use Rattle.opus_defines.specs.declared.Refusal.{Refusal}
+use Rattle.opus_defines.specs.declared.Refusal.the-variants.{BadArg, InvalidPacket, InvalidState}
+use Rattle.opus_defines.specs.declared.Verdict.the-variants.{Accepted, Refused}
+use Rattle.opus_size.specs.Size.{mostBytes}
+use Rattle.opus_toc.specs.declared.Samples8k.{Samples8k}
+use Rattle.opus_toc.specs.Toc.{upperSix, configuration, samples}
+use Rattle.opus.specs.Frames.{total, longest}
+use Rattle.opus.specs.Format.{Lasts}
+use Rattle.opus.specs.Reading.{Reading, refused, accepted, read}
+use Rattle.opus.proofs.Counts.{lasts-few}
+use Rattle.blocks.specs.Blocks.{copied}
+use Rattle.repacketizer.specs.declared.OpusRepacketizer.{OpusRepacketizer}
+use Rattle.repacketizer.specs.declared.Added.{Added}
+use Rattle.repacketizer.specs.Collector.{heldLengths, leastStore, sound}
+use Rattle.repacketizer.specs.Adding.{Adding, refusedAdd, noAdd, goesWith, withFrames, addBlock, addRead, addPacket, added}
+use Rattle.opus.proofs.Lengths.{total-most}
+use Rattle.repacketizer.proofs.Held.{holding}
+use Rattle.repacketizer.proofs.Sound.{Timed, timed-lasts, lasts-timed, none-sound, sound-full}
+
+-- ---- whether frames go with those held
+module _ (rp : OpusRepacketizer) (toc n : ℕ) where
+  pub goes-none : rp .«nb_frames» ≡ 0 → true ≡ goesWith rp toc n
+  goes-none e = rw (eq-eqb (rp .«nb_frames») 0 e)
+
+  module _ (z : rp .«nb_frames» ≡ 0 → ⊥) where
+    pub goes-other : (upperSix toc ≡ upperSix (rp .toc) → ⊥) → false ≡ goesWith rp toc n
+    goes-other d = rw (ne-eqb (rp .«nb_frames») 0 z, ne-eqb (upperSix toc) (upperSix (rp .toc)) d)
+
+    pub goes-time : upperSix toc ≡ upperSix (rp .toc) → leb ((rp .«nb_frames» + n) * rp .framesize .0) 960 ≡ goesWith rp toc n
+    goes-time s = rw (ne-eqb (rp .«nb_frames») 0 z, eq-eqb (upperSix toc) (upperSix (rp .toc)) s)
+
+    goes-timed : sound rp ≡ true → goesWith rp toc n ≡ true → Timed (rp .toc) (rp .«nb_frames» + n) (rp .framesize .0)
+    goes-timed s g =
+        let t = rw (ne-eqb (rp .«nb_frames») 0 z) at g in
+        record { size = sound-full rp z s .timed .size; time = both-right (eqb (upperSix toc) (upperSix (rp .toc))) (leb ((rp .«nb_frames» + n) * rp .framesize .0) 960) t }
+
+-- ---- those held and the new ones
+module _ (rp : OpusRepacketizer) (toc : ℕ) (ns : List ℕ) (s : sound rp ≡ true) (g : goesWith rp toc (length ns) ≡ true) where
+  pub with-few : rp .toc < 256 → length ns ≤ 48 → rp .«nb_frames» + length ns ≤ 48
+  with-few b h =
+      by-test (eqb (rp .«nb_frames») 0) (λ e. omega (arith, eqb-true (rp .«nb_frames») 0 e))
+      (λ e. let z = eqb-false (rp .«nb_frames») 0 e in lasts-few (timed-lasts b (omega arith) (goes-timed rp toc (length ns) z s g)))
+
+  pub with-timed : toc < 256 → Lasts (upperSix toc) (length ns) → Timed (withFrames rp toc ns .toc) (withFrames rp toc ns .«nb_frames») (withFrames rp toc ns .framesize .0)
+  with-timed b l =
+      by-test (eqb (rp .«nb_frames») 0)
+      (λ e. let z : rp .«nb_frames» + length ns ≡ length ns = omega (arith, eqb-true (rp .«nb_frames») 0 e) in rw (e, z) (lasts-timed b refl l))
+      (λ e. rw e (goes-timed rp toc (length ns) (eqb-false (rp .«nb_frames») 0 e) s g))
+
+  -- so all of them fit the least store
+  pub with-room : rp .toc < 256 → length (rp .len) ≡ 48 → length ns ≤ 48 → longest ns ≤ mostBytes → total (heldLengths rp) + total ns ≤ leastStore
+  with-room b l h m =
+      let w = holding rp b l s in
+      omega (arith, total-most (heldLengths rp) (w .small), total-most ns m, w .count, with-few b h)
+
+-- ---- the new collector
+module _ (rp : OpusRepacketizer) (toc : ℕ) (ns : List ℕ) (at : ℕ) (all : List ℕ) (a : at ≡ rp .«nb_frames») (l : all ≡ sets (rp .len) at ns) where
+  pub with-first : rp .«nb_frames» ≡ 0 → (each : Samples8k) → each .0 ≡ samples 8000 (configuration toc) → record { toc = toc; «nb_frames» = at + length ns; framesize = each; len = all } ≡ withFrames rp toc ns
+  with-first z each e = rw (eq-eqb (rp .«nb_frames») 0 z, ← e, l, a)
+
+  pub with-more : (rp .«nb_frames» ≡ 0 → ⊥) → record { toc = rp .toc; «nb_frames» = at + length ns; framesize = rp .framesize; len = all } ≡ withFrames rp toc ns
+  with-more z = rw (ne-eqb (rp .«nb_frames») 0 z, l, a)
+
+-- ---- an add by its tests
+-- frames that are added
+abbrev pub taken : OpusRepacketizer → ℕ → List ℕ → List ℕ → ℕ → List ℕ → Adding
+taken rp toc ns p first store =
+    record {
+      answer = record { verdict = Accepted; rp = withFrames rp toc ns };
+      store = copied store (total (heldLengths rp)) p first (total ns);
+    }
+
+module _ (rp : OpusRepacketizer) (toc : ℕ) (ns p : List ℕ) (first : ℕ) (store : List ℕ) where
+  pub block-refused : goesWith rp toc (length ns) ≡ false → addBlock rp toc ns p first store ≡ noAdd InvalidPacket rp store
+  unfolding addBlock
+  block-refused g = rw g
+
+  pub block-added : goesWith rp toc (length ns) ≡ true → addBlock rp toc ns p first store ≡ taken rp toc ns p first store
+  unfolding addBlock
+  block-added g = rw g
+
+  -- as the code makes it, with the places that it found
+  pub block-as : goesWith rp toc (length ns) ≡ true → (at n : ℕ) (new : OpusRepacketizer) (left : List ℕ) → at ≡ total (heldLengths rp) → n ≡ total ns → new ≡ withFrames rp toc ns → left ≡ copied store at p first n
+      → (record { verdict = Accepted; rp = new } ≡ addBlock rp toc ns p first store .answer) × (left ≡ addBlock rp toc ns p first store .store)
+  block-as g at n new left a b w l = rw (block-added g, ← a, ← b, ← w) (refl, l)
+
+module _ (sd : Bool) (rp : OpusRepacketizer) (p store : List ℕ) where
+  pub add-unsound : sound rp ≡ false → added sd rp p store ≡ noAdd InvalidState rp store
+  unfolding added
+  add-unsound s = rw s
+
+  pub add-tight : sound rp ≡ true → length store < leastStore → added sd rp p store ≡ noAdd BadArg rp store
+  unfolding added
+  add-tight s h = rw (s, lt-ltb (length store) leastStore h)
+
+  pub add-sound : sound rp ≡ true → leastStore ≤ length store → added sd rp p store ≡ addPacket sd rp p store
+  unfolding added
+  add-sound s h = rw (s, le-ltb (length store) leastStore h)
+
+  pub add-read : (toc : ℕ) (ns : List ℕ) (first end : ℕ) → length p ≤ 65535 → read sd p ≡ accepted toc ns first end → addPacket sd rp p store ≡ addBlock rp toc ns p first store
+  unfolding addPacket
+  add-read toc ns first end h r = rw (le-ltb 65535 (length p) h, r)
+
+  -- an empty collector takes what the reader accepts
+  pub add-empty : (toc : ℕ) (ns : List ℕ) (first end : ℕ) → rp .«nb_frames» ≡ 0 → leastStore ≤ length store → length p ≤ 65535 → read sd p ≡ accepted toc ns first end → added sd rp p store ≡ taken rp toc ns p first store
+  add-empty toc ns first end e h k r =
+      add-sound (none-sound rp e) h
+      ∙ (add-read toc ns first end k r ∙ block-added rp toc ns p first store (sym (goes-none rp toc (length ns) e)))
+
+-- a refused add, as the code hands it back
+pub refused-as : {a : Adding} {e : Refusal} {rp : OpusRepacketizer} {store : List ℕ} {r : Added} → a ≡ noAdd e rp store → r ≡ refusedAdd e rp → (r ≡ a .answer) × (store ≡ a .store)
+refused-as p q = rw p (q, refl)
+
+-- ---- how an add ends
+pub data Ends (sd : Bool) (rp : OpusRepacketizer) (p store : List ℕ) : Adding → Type 0 where
+  refuses : (e : Refusal) → Ends sd rp p store (noAdd e rp store)
+  takes : (toc : ℕ) (ns : List ℕ) (first end : ℕ) → read sd p ≡ accepted toc ns first end → goesWith rp toc (length ns) ≡ true → Ends sd rp p store (taken rp toc ns p first store)
+
+pub ends : (sd : Bool) (rp : OpusRepacketizer) (p store : List ℕ) → Ends sd rp p store (added sd rp p store)
+unfolding added addPacket
+ends sd rp p store =
+    by-test (sound rp)
+    (λ s. by-test (ltb (length store) leastStore)
+    (λ h. rw (s, h) (refuses BadArg))
+    (λ h. by-test (ltb 65535 (length p)) (λ k. rw (s, h, k) (refuses BadArg)) (λ k. rw (s, h, k) (go (read sd p) refl))))
+    (λ s. rw s (refuses InvalidState))
+  where
+    go : (x : Reading) → read sd p ≡ x → Ends sd rp p store (addRead rp p store (read sd p))
+    go (refused rule) q = rw q (refuses InvalidPacket)
+    go (accepted toc ns first end) q =
+        rw q
+        (by-test (goesWith rp toc (length ns))
+        (λ g. rw (block-added rp toc ns p first store g) (takes toc ns first end q g))
+        (λ g. rw (block-refused rp toc ns p first store g) (refuses InvalidPacket)))
+
+-- a refused add changes nothing
+pub refused-same : {sd : Bool} {rp : OpusRepacketizer} {p store : List ℕ} {a : Adding} {e : Refusal} → Ends sd rp p store a → a .answer .verdict ≡ Refused e → (a .answer .rp ≡ rp) × (a .store ≡ store)
+refused-same (refuses e) v = (refl, refl)
+refused-same (takes toc ns first end q g) v = never (cc)

@@ -1,0 +1,38 @@
+-- Lengths and frames that were stored behind others.
+--     sets-more         one length more, as a loop stores them
+--     take-sets-at      lengths that were stored behind others are read back with them
+--     cut-copied        frames that were copied behind others are read back with them
+-- Assumes nothing.
+use Prim.Native.Nat.{ℕ, _+_, _≤_, _<_}
+use native.Mathlib.Omega.{arith}
+use mathlib.Core.Path.{_≡_, ap, _∙_}
+use mathlib.Core.List.{List, _++_, append-assoc}
+use lib.ListN.{length, getD, take, drop, set, length-append, length-drop}
+use lib.Seq.{sets, sets-eq, take-at, drop-at, length-take-le}
+use Rattle.opus.specs.Frames.{cut, total}
+use Rattle.opus.proofs.Lengths.{take-next, cut-append, cut-front}
+use Rattle.blocks.specs.Blocks.{part, copied}
+use Rattle.blocks.proofs.Sets.{sets-next, length-part}
+
+pub sets-more : (ns : List ℕ) (i : ℕ) → i < length ns → (l : List ℕ) (at : ℕ) → set (sets l at (take i ns)) (at + i) (getD ns i 0) ≡ sets l at (take (i + 1) ns)
+sets-more ns i h l at =
+    rw (take-next ns i h) (sets-next l at i (take i ns) (getD ns i 0) (length-take-le i ns (omega arith)))
+
+-- ---- what was stored behind others
+pub take-sets-at : (l : List ℕ) (n : ℕ) (vs : List ℕ) → n + length vs ≤ length l → take (n + length vs) (sets l n vs) ≡ take n l ++ vs
+take-sets-at l n vs h =
+    let e : length (take n l ++ vs) ≡ n + length vs = length-append (take n l) vs ∙ ap (λ (k : ℕ). k + length vs) (length-take-le n l (omega arith)) in
+    rw (sets-eq vs l n h) (take-at (take n l ++ vs) (drop (n + length vs) l) (n + length vs) e)
+
+pub cut-copied : (ks ns store p : List ℕ) (first : ℕ) → total ks + total ns ≤ length store → first + total ns ≤ length p
+    → cut (ks ++ ns) (copied store (total ks) p first (total ns)) ≡ cut ks store ++ cut ns (drop first p)
+cut-copied ks ns store p first h k =
+    let t = total ks in
+    let q = part p first (total ns) in
+    let lq : length q ≡ total ns = length-part p first (total ns) k in
+    let rest = drop (t + length q) store in
+    let laid : sets store t q ≡ take t store ++ (q ++ rest) = sets-eq q store t (omega arith) ∙ append-assoc (take t store) q rest in
+    let held : cut ks (take t store ++ (q ++ rest)) ≡ cut ks store = cut-front ks store (q ++ rest) (omega arith) in
+    let behind : drop t (take t store ++ (q ++ rest)) ≡ q ++ rest = drop-at (take t store) (q ++ rest) t (length-take-le t store (omega arith)) in
+    let new : cut ns (q ++ rest) ≡ cut ns (drop first p) = cut-front ns (drop first p) rest (omega (arith, length-drop first p)) in
+    rw (cut-append ks ns (sets store t q), laid, held, behind, new)

@@ -1,0 +1,43 @@
+-- What a buyer may count on when packets are added (demand 3, and document 01's refusals).
+-- Assumes nothing.
+use Prim.Native.Nat.{ℕ, _*_, _≤_, _<_}
+use mathlib.Core.Path.{_≡_, refl, sym, _∙_}
+use mathlib.Core.List.{List}
+use mathlib.Core.Bool.{Bool}
+use lib.Dec.{leb}
+use lib.ListN.{length}
+use Rattle.opus_defines.specs.declared.Refusal.{Refusal}
+use Rattle.opus_defines.specs.declared.Verdict.the-variants.{Accepted, Refused}
+use Rattle.opus_toc.specs.Toc.{samples}
+use Rattle.opus_toc.proofs.Samples.{lasts-at}
+use Rattle.opus.specs.Reading.{accepted, read}
+use Rattle.repacketizer.specs.declared.OpusRepacketizer.{OpusRepacketizer}
+use Rattle.repacketizer.specs.Collector.{empty, held, leastStore}
+use Rattle.repacketizer.specs.Adding.{added}
+use Rattle.repacketizer.specs.Runs.{State, Ready, AllBytes, afterAdds, framesAccepted}
+use Rattle.repacketizer.proofs.Adds.{add-empty, ends, refused-same}
+use Rattle.repacketizer.proofs.Runs.{empty-ready, runs-ready, runs-held}
+
+-- an empty collector with a store that is long enough
+abbrev pub start : List ℕ → State
+start store = record { rp = empty; store = store }
+
+-- 1. From an empty collector, after any list of adds, refused ones included, the collector is sound, the store is never too short, and
+-- the frames held are those of the accepted packets, in order.
+pub frames-are-kept : (sd : Bool) (store : List ℕ) (ps : List (List ℕ)) → leastStore ≤ length store → AllBytes ps → held (afterAdds sd (start store) ps .rp) (afterAdds sd (start store) ps .store) ≡ framesAccepted sd (start store) ps
+frames-are-kept sd store ps h b = runs-held sd (start store) ps (empty-ready store h) b
+
+pub collector-stays-sound : (sd : Bool) (store : List ℕ) (ps : List (List ℕ)) → leastStore ≤ length store → AllBytes ps → Ready (afterAdds sd (start store) ps)
+collector-stays-sound sd store ps h b = runs-ready sd (start store) ps (empty-ready store h) b
+
+-- 2. An empty collector takes any packet that the reader accepts.
+pub empty-takes-all : (sd : Bool) (rp : OpusRepacketizer) (store p : List ℕ) (toc : ℕ) (ns : List ℕ) (first taken : ℕ) → rp .«nb_frames» ≡ 0 → leastStore ≤ length store → length p ≤ 65535 → read sd p ≡ accepted toc ns first taken → added sd rp p store .answer .verdict ≡ Accepted
+empty-takes-all sd rp store p toc ns first taken e h k r = rw (add-empty sd rp p store toc ns first taken e h k r)
+
+-- since 960 samples at 8 kHz and 5760 at 48 kHz are the same time, whatever the configuration
+pub limits-agree : (count c : ℕ) → c < 32 → leb (count * samples 8000 c) 960 ≡ leb (count * samples 48000 c) 5760
+limits-agree count c h = lasts-at 8000 refl count c h ∙ sym (lasts-at 48000 refl count c h)
+
+-- 7. A refused add changes nothing.
+pub refused-add-changes-nothing : (sd : Bool) (rp : OpusRepacketizer) (p store : List ℕ) (e : Refusal) → added sd rp p store .answer .verdict ≡ Refused e → (added sd rp p store .answer .rp ≡ rp) × (added sd rp p store .store ≡ store)
+refused-add-changes-nothing sd rp p store e r = refused-same (ends sd rp p store) r

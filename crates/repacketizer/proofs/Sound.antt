@@ -1,0 +1,102 @@
+-- When a collector is sound.
+--     Timed, timed-lasts, lasts-timed              120 ms counted in samples at 8 kHz
+--     none-sound, Full, sound-full, full-sound     an empty collector, and one that is not empty
+--     wrong-size, wrong-time, right-time           its tests as the code goes through them
+--     unsound-number, sound-number                 the number of frames held
+-- Assumes nothing.
+use Prim.Native.Nat.{ℕ, _*_, _≤_, _<_}
+use native.Mathlib.Omega.{arith}
+use mathlib.Core.Path.{_≡_, refl, sym, _∙_}
+use mathlib.Core.Bool.{Bool, true, false, _&&_}
+use lib.Dec.{leb, eqb}
+use borrow.Author.Tests.{eqb-true, leb-true, le-leb, eq-eqb, ne-eqb}
+use Rattle.laws.proofs.Never.{by-test}
+use Rattle.laws.proofs.Every.{both-left, both-right}
+use Rattle.opus_defines.specs.declared.Answer.the-variants.{Number, Refused}
+use Rattle.opus_defines.specs.declared.Refusal.the-variants.{InvalidState}
+use Rattle.opus_size.specs.Size.{mostBytes}
+use Rattle.opus_toc.specs.Toc.{upperSix, configuration, duration, samples}
+use Rattle.opus_toc.proofs.Samples.{lasts-at}
+use Rattle.opus.specs.Frames.{longest}
+use Rattle.opus.specs.Format.{Lasts}
+use Rattle.repacketizer.specs.declared.OpusRepacketizer.{OpusRepacketizer}
+use Rattle.repacketizer.specs.Collector.{heldLengths, sound, nbFramesHeld}
+
+-- `each` is the frame size of this TOC byte at 8 kHz, and so many frames last at most 120 ms
+pub record Timed (toc count each : ℕ) : Type 0 where
+  pub size : each ≡ samples 8000 (configuration toc)
+  pub time : leb (count * each) 960 ≡ true
+
+-- which are the 120 ms of the RFC's durations
+module _ (toc count each : ℕ) (b : toc < 256) (e : each ≡ samples 8000 (configuration toc)) where
+  pub time-is : leb (count * each) 960 ≡ leb (count * duration (configuration toc)) 1200
+  time-is = rw e (lasts-at 8000 refl count (configuration toc) (omega arith))
+
+pub timed-lasts : {toc count each : ℕ} → toc < 256 → 1 ≤ count → Timed toc count each → Lasts (upperSix toc) count
+timed-lasts {toc} {count} {each} b h t =
+    record { some = h; short = leb-true (count * duration (configuration toc)) 1200 (sym (time-is toc count each b (t .size)) ∙ t .time) }
+
+pub lasts-timed : {toc count each : ℕ} → toc < 256 → each ≡ samples 8000 (configuration toc) → Lasts (upperSix toc) count → Timed toc count each
+lasts-timed {toc} {count} {each} b e l =
+    record { size = e; time = time-is toc count each b e ∙ le-leb (count * duration (configuration toc)) 1200 (l .short) }
+
+-- ---- an empty collector
+pub none-sound : (rp : OpusRepacketizer) → rp .«nb_frames» ≡ 0 → sound rp ≡ true
+unfolding sound
+none-sound rp e = rw (eq-eqb (rp .«nb_frames») 0 e)
+
+-- ---- one that is not empty
+pub record Full (rp : OpusRepacketizer) : Type 0 where
+  pub timed : Timed (rp .toc) (rp .«nb_frames») (rp .framesize .0)
+  pub small : longest (heldLengths rp) ≤ mostBytes
+
+pub full-sound : (rp : OpusRepacketizer) → Full rp → sound rp ≡ true
+unfolding sound
+full-sound rp f =
+    let s = eq-eqb (rp .framesize .0) (samples 8000 (configuration (rp .toc))) (f .timed .size) in
+    by-test (eqb (rp .«nb_frames») 0) (λ e. rw e) (λ e. rw (e, s, f .timed .time, le-leb (longest (heldLengths rp)) mostBytes (f .small)))
+
+module _ (rp : OpusRepacketizer) (z : rp .«nb_frames» ≡ 0 → ⊥) where
+  abbrev size : Bool
+  size = eqb (rp .framesize .0) (samples 8000 (configuration (rp .toc)))
+
+  abbrev time : Bool
+  time = leb (rp .«nb_frames» * rp .framesize .0) 960
+
+  abbrev small : Bool
+  small = leb (longest (heldLengths rp)) mostBytes
+
+  sound-is : sound rp ≡ size && (time && small)
+  unfolding sound
+  sound-is = rw (ne-eqb (rp .«nb_frames») 0 z)
+
+  pub sound-full : sound rp ≡ true → Full rp
+  sound-full s =
+      let all = sym sound-is ∙ s in
+      let rest = both-right size (time && small) all in
+      record {
+        timed = record { size = eqb-true (rp .framesize .0) (samples 8000 (configuration (rp .toc))) (both-left size (time && small) all); time = both-left time small rest };
+        small = leb-true (longest (heldLengths rp)) mostBytes (both-right time small rest);
+      }
+
+  -- the code's tests, with `each` for the frame size
+  module _ (each : ℕ) (e : each ≡ samples 8000 (configuration (rp .toc))) where
+    pub wrong-size : (rp .framesize .0 ≡ each → ⊥) → false ≡ sound rp
+    wrong-size w = rw (sound-is, ← e, ne-eqb (rp .framesize .0) each w)
+
+    module _ (f : rp .framesize .0 ≡ each) where
+      pub wrong-time : leb (rp .«nb_frames» * each) 960 ≡ false → false ≡ sound rp
+      wrong-time w = rw (sound-is, ← e, f, eq-eqb each each refl, w)
+
+      pub right-time : leb (rp .«nb_frames» * each) 960 ≡ true → leb (longest (heldLengths rp)) mostBytes ≡ sound rp
+      right-time t = rw (sound-is, ← e, f, eq-eqb each each refl, t)
+
+-- ---- the frames held, as a number
+module _ (rp : OpusRepacketizer) where
+  pub unsound-number : sound rp ≡ false → Refused InvalidState ≡ nbFramesHeld rp
+  unfolding nbFramesHeld
+  unsound-number s = rw s
+
+  pub sound-number : sound rp ≡ true → Number (rp .«nb_frames») ≡ nbFramesHeld rp
+  unfolding nbFramesHeld
+  sound-number s = rw s

@@ -1,0 +1,6 @@
+pub mod Ranges
+pub mod Outputs
+pub mod Put
+pub mod Packets
+pub mod Again
+pub mod Promises

@@ -1,0 +1,95 @@
+-- `repacketizer_out::out_answer` meets its contract: by the tests of the code.
+-- Assumes nothing.
+use mathlib.Core.Path.{_≡_, sym, _∙_}
+use mathlib.Core.Bool.{true}
+use borrow.Author.Needs.{needs}
+use borrow.Author.Tests.{not-true, not-false}
+use Rattle.opus_defines.specs.declared.Refusal.the-variants.{BadArg, InvalidState}
+use Rattle.opus_defines.proofs.Counts.{counted, is-natural}
+use Rattle.opus_toc.specs.Toc.{upperSix}
+use Rattle.repacketizer.specs.Collector.{held, sound}
+use Rattle.repacketizer_out.specs.Output.{outFrames, outRange}
+use Rattle.repacketizer_out.proofs.Outputs.{answered, refused-as, out-unsound, out-tight, out-long, out-sound, frames-before, frames-under, frames-natural}
+use Rattle.repacketizer_out.proofs.out_answer.Statement.{statement}
+use Rattle.repacketizer_out.proofs.out_answer.Tie as tie
+
+returns : tie.Need-returns
+returns c =
+    let b = c .before in
+    let a = b .before .before .before .args in
+    refused-as InvalidState (out-unsound (a .self-delimited) (a .pad) (a .rp) (a .store .now) (a .begin) (a .end) (a .«data» .now) (sym (b .is-sound .ensures) ∙ not-true _ (c .if1 .taken)))
+
+-- the collector is sound
+is : (c : tie.Else1) → sound (c .before .before .before .before .args .rp) ≡ true
+is c = sym (c .before .is-sound .ensures) ∙ not-false _ (c .if1 .left)
+
+returns-2 : tie.Need-returns-2
+returns-2 c =
+    let i = c .before in
+    let a = i .before .before .before .before .args in
+    refused-as BadArg (out-tight (a .self-delimited) (a .pad) (a .rp) (a .store .now) (a .begin) (a .end) (a .«data» .now) (is i) (c .if2 .taken))
+
+returns-3 : tie.Need-returns-3
+returns-3 c =
+    let i = c .before .before in
+    let a = i .before .before .before .before .args in
+    refused-as BadArg (out-long (a .self-delimited) (a .pad) (a .rp) (a .store .now) (a .begin) (a .end) (a .«data» .now) (is i) (c .before .if2 .left) (c .if3 .taken))
+
+-- the collector, the store and the destination are in order
+ready : (c : tie.Else3) → let a = c .before .before .before .before .before .before .args in outRange (a .self-delimited) (a .pad) (a .rp) (a .store .now) (a .begin) (a .end) (a .«data» .now) ≡ outFrames (a .self-delimited) (a .pad) (upperSix (a .rp .toc)) (held (a .rp) (a .store .now)) (a .begin) (a .end) (a .«data» .now)
+ready c =
+    let a = c .before .before .before .before .before .before .args in
+    out-sound (a .self-delimited) (a .pad) (a .rp) (a .store .now) (a .begin) (a .end) (a .«data» .now) (is (c .before .before)) (c .before .if2 .left) (c .if3 .left)
+
+returns-4 : tie.Need-returns-4
+returns-4 c =
+    let n = c .before .before in
+    let s = n .before .before .before .before .before .before .before in
+    let a = s .args in
+    refused-as BadArg (ready (n .before) ∙ frames-before (a .self-delimited) (a .pad) (upperSix (a .rp .toc)) (held (a .rp) (a .store .now)) (a .«data» .now) (a .begin) (a .end) (counted (a .begin) (s .fits .begin) (n .count-of .ensures .0) (c .enum-told .given .1)))
+
+returns-5 : tie.Need-returns-5
+returns-5 c =
+    let m = c .before .before in
+    let n = m .before .before .before .before in
+    let s = n .before .before .before .before .before .before .before in
+    let a = s .args in
+    refused-as BadArg (ready (n .before) ∙ frames-under (a .self-delimited) (a .pad) (upperSix (a .rp .toc)) (held (a .rp) (a .store .now)) (a .«data» .now) (a .begin) (a .end) (counted (a .end) (s .fits .end) (m .count-of2 .ensures .0) (c .enum-told2 .given .1)))
+
+out-frames-requires : tie.Need-out-frames-requires
+out-frames-requires c κs =
+    let t = c .before .before .before .before .before .before .before .before .before in
+    (is (t .before .before), t .before .if2 .left, t .if3 .left)
+
+returns-6 : tie.Need-returns-6
+returns-6 c =
+    let f = c .before .before in
+    let e = f .before .before .before in
+    let m = e .before .before in
+    let b = m .before .before in
+    let n = b .before .before in
+    let s = n .before .before .before .before .before .before .before in
+    let a = s .args in
+    let begins = is-natural (a .begin) _ (counted (a .begin) (s .fits .begin) (n .count-of .ensures .0) (b .b .given .1)) in
+    let ends = is-natural (a .end) _ (counted (a .end) (s .fits .end) (m .count-of2 .ensures .0) (e .e .given .1)) in
+    answered (ready (n .before) ∙ frames-natural (a .self-delimited) (a .pad) (upperSix (a .rp .toc)) (held (a .rp) (a .store .now)) (a .«data» .now) begins ends) (f .out-frames .ensures)
+
+pub out-answer-spec : {M : Type 1} → statement M
+out-answer-spec =
+    tie.close
+    (tie.spec
+    (λ c κs. search needs)
+    returns
+    returns-2
+    returns-3
+    (λ c κs. search needs)
+    (λ c. search needs)
+    (λ c. search needs)
+    returns-4
+    (λ c κs. search needs)
+    (λ c. search needs)
+    (λ c. search needs)
+    returns-5
+    out-frames-requires
+    (λ c. search needs)
+    returns-6)

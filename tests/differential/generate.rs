@@ -1,0 +1,374 @@
+// Writes cases of the replay protocol to standard output: `generate SEED COUNT` for so many random ones, `generate short` for every packet of 0, 1 and
+// 2 bytes through every call. The same seed and count give the same bytes.
+use std::io::Write;
+
+// xorshift64*: small, seeded, the same everywhere.
+struct Random(u64);
+
+impl Random {
+    fn next(&mut self) -> u64 {
+        self.0 ^= self.0 >> 12;
+        self.0 ^= self.0 << 25;
+        self.0 ^= self.0 >> 27;
+        self.0.wrapping_mul(0x2545_F491_4F6C_DD1D)
+    }
+    fn below(&mut self, n: usize) -> usize {
+        ((self.next() >> 33) as usize) % n
+    }
+    fn between(&mut self, a: usize, b: usize) -> usize {
+        a + self.below(b - a + 1)
+    }
+    fn chance(&mut self, percent: usize) -> bool {
+        self.below(100) < percent
+    }
+    fn pick<T: Copy>(&mut self, from: &[T]) -> T {
+        from[self.below(from.len())]
+    }
+    fn byte(&mut self) -> u8 {
+        self.next() as u8
+    }
+    fn bytes(&mut self, n: usize) -> Vec<u8> {
+        (0..n).map(|_| self.byte()).collect()
+    }
+}
+
+// ---- packets
+
+fn field(out: &mut Vec<u8>, n: usize) {
+    if n < 252 {
+        out.push(n as u8);
+    } else {
+        out.push((252 + n % 4) as u8);
+        out.push(((n - 252) / 4) as u8);
+    }
+}
+
+// Samples at 48 kHz of a frame, by the configuration.
+fn samples(toc: u8) -> usize {
+    let c = (toc / 8) as usize;
+    match c {
+        0..=11 => [480, 960, 1920, 2880][c % 4],
+        12..=15 => [480, 960][c % 2],
+        _ => [120, 240, 480, 960][c % 4],
+    }
+}
+
+fn frame_length(r: &mut Random) -> usize {
+    match r.below(20) {
+        0 => r.pick(&[250, 251, 252, 253, 254, 255, 256]),
+        1 => r.pick(&[1273, 1274, 1275]),
+        2 => r.between(252, 1275),
+        3..=6 => 0,
+        7..=9 => r.between(1, 3),
+        _ => r.between(0, 60),
+    }
+}
+
+// The padding lengths of code 3 for so many padding bytes.
+fn chain(out: &mut Vec<u8>, r: &mut Random, pad: usize) {
+    let mut left = pad;
+    while left > 254 || (left == 254 && r.chance(50)) {
+        out.push(255);
+        left -= 254;
+    }
+    out.push(left as u8);
+}
+
+// A packet by the rules, with this TOC byte's upper six bits if there is one.
+fn good_packet(r: &mut Random, delim: bool, six: Option<u8>) -> Vec<u8> {
+    let six = six.unwrap_or_else(|| r.byte() & 0xfc);
+    let code = r.pick(&[0u8, 0, 1, 2, 3, 3, 3, 3]);
+    let most = (5760 / samples(six)).min(48);
+    let many = if r.chance(20) { most } else { most.min(6) };
+    let equal = r.chance(50);
+    let count = match code {
+        0 => 1,
+        1 | 2 => 2,
+        _ if r.chance(15) => most,
+        _ => r.between(1, many),
+    };
+    let first = frame_length(r);
+    let same = code == 1 || (code == 3 && equal) || r.chance(25);
+    let lens: Vec<usize> = (0..count).map(|_| if same { first } else { frame_length(r) }).collect();
+    let mut p = vec![six | code];
+    let pad = match r.below(10) {
+        0 => r.pick(&[0, 1, 253, 254, 255, 256, 508, 509]),
+        1 => r.between(0, 700),
+        2 if r.chance(10) => r.between(700, 3000),
+        _ => r.between(0, 6),
+    };
+    let padded = code == 3 && r.chance(50);
+    let unequal = code == 2 || (code == 3 && !(equal && same));
+    if code == 3 {
+        p.push(count as u8 | if padded { 0x40 } else { 0 } | if unequal { 0x80 } else { 0 });
+        if padded {
+            chain(&mut p, r, pad);
+        }
+    }
+    if unequal {
+        for n in &lens[..count - 1] {
+            field(&mut p, *n);
+        }
+    }
+    if delim {
+        field(&mut p, lens[count - 1]);
+    }
+    for n in &lens {
+        let f = r.bytes(*n);
+        p.extend(f);
+    }
+    if padded {
+        let clean = r.chance(60);
+        for _ in 0..pad {
+            let b = if clean { 0 } else { r.byte() };
+            p.push(b);
+        }
+    }
+    p.truncate(65535);
+    p
+}
+
+// A packet, good, damaged, cut, or any bytes.
+fn packet(r: &mut Random, delim: bool, six: Option<u8>) -> Vec<u8> {
+    let mut p = good_packet(r, delim, six);
+    match r.below(24) {
+        0 => {
+            let n = r.below(p.len() + 1);
+            p.truncate(n);
+        }
+        1 | 2 => {
+            let n = p.len();
+            for _ in 0..r.between(1, 3) {
+                let i = r.below(n.min(12));
+                p[i] = if r.chance(50) { r.byte() } else { r.pick(&[0, 1, 251, 252, 253, 254, 255, 48, 49, 63]) };
+            }
+        }
+        3 => {
+            let n = r.between(1, 5);
+            p.extend(r.bytes(n));
+        }
+        4 => {
+            let n = r.between(0, 9);
+            p = r.bytes(n);
+        }
+        5 if r.chance(3) => {
+            let n = r.pick(&[1276, 1277, 2551, 2552, 65534, 65535, 65536, 61204]);
+            p = r.bytes(n);
+        }
+        6 if r.chance(5) => {
+            // a long run of 255 in the padding lengths
+            let n = r.between(1, 600);
+            p = vec![p[0] | 3, 0x41];
+            p.extend(vec![255; n]);
+            let k = r.between(0, 200_000).min(65535 - p.len());
+            p.push(r.byte());
+            p.extend(vec![0; k]);
+        }
+        _ => {}
+    }
+    p
+}
+
+fn streams_packet(r: &mut Random, streams: usize) -> Vec<u8> {
+    let mut p = Vec::new();
+    for i in 0..streams {
+        let last = i + 1 == streams;
+        let q = if r.chance(97) { good_packet(r, !last, None) } else { packet(r, !last, None) };
+        if p.len() + q.len() > 60000 {
+            break;
+        }
+        p.extend(q);
+    }
+    p
+}
+
+// ---- cases
+
+fn put(out: &mut Vec<u8>, n: i32) {
+    out.extend(n.to_le_bytes());
+}
+
+fn put_bytes(out: &mut Vec<u8>, b: &[u8]) {
+    put(out, b.len() as i32);
+    out.extend(b);
+}
+
+const EXTREMES: [i32; 8] = [i32::MIN, i32::MIN + 1, -2, -1, i32::MAX, i32::MAX - 1, 65536, 256];
+
+fn new_length(r: &mut Random, len: usize) -> i32 {
+    let n = match r.below(12) {
+        0 => len,
+        1 => len.saturating_sub(r.between(1, 3)),
+        2 => len + r.pick(&[254, 255, 256, 257, 258, 509, 510, 511, 512]),
+        3 if r.chance(4) => r.pick(&[65534, 65535, 65536]),
+        4 => len + r.between(0, 900),
+        _ => len + r.between(1, 6),
+    };
+    n.min(65536) as i32
+}
+
+fn collector_case(r: &mut Random, out: &mut Vec<u8>) {
+    let six = r.byte() & 0xfc;
+    let n = r.pick(&[0usize, 1, 1, 2, 2, 2, 3, 3, 4, 6, 9]);
+    let mut packets = Vec::new();
+    for _ in 0..n {
+        let other = r.chance(6);
+        packets.push(packet(r, false, if other { None } else { Some(six) }));
+    }
+    let sum: usize = packets.iter().map(|p| p.len()).sum();
+    let held = r.between(0, 2 * n + 2) as i32;
+    let (begin, end) = match r.below(8) {
+        0 => (r.pick(&EXTREMES), r.pick(&EXTREMES)),
+        1 => (0, r.pick(&EXTREMES)),
+        2 => (r.between(0, 5) as i32, r.between(0, 50) as i32),
+        3 => (r.between(0, 3) as i32, held),
+        _ => (0, held),
+    };
+    let room = match r.below(10) {
+        0 => r.between(0, 6),
+        1 => sum + r.between(0, 700),
+        2 if r.chance(2) => r.pick(&[65535, 65536]),
+        3..=6 => (sum + r.between(0, 8)).saturating_sub(r.between(0, 10)),
+        _ => r.between(0, sum + 8),
+    };
+    out.push(2);
+    out.push(r.chance(40) as u8);
+    out.push(r.chance(40) as u8);
+    put(out, begin);
+    put(out, end);
+    put(out, room.min(65536) as i32);
+    out.push(n as u8);
+    for p in &packets {
+        put_bytes(out, p);
+    }
+}
+
+fn case(r: &mut Random, out: &mut Vec<u8>) {
+    match r.below(20) {
+        0..=4 => {
+            let d = r.chance(50);
+            out.push(1);
+            out.push(d as u8);
+            put_bytes(out, &packet(r, d, None));
+        }
+        5..=8 => collector_case(r, out),
+        9..=11 => {
+            let p = packet(r, false, None);
+            out.push(3);
+            put(out, new_length(r, p.len()));
+            put_bytes(out, &p);
+        }
+        12..=13 => {
+            out.push(4);
+            put_bytes(out, &packet(r, false, None));
+        }
+        14 | 15 => {
+            let streams = if r.chance(4) { r.between(1, 255) } else { r.between(1, 5) };
+            let p = streams_packet(r, streams);
+            let said = match r.below(30) {
+                0 => r.pick(&EXTREMES),
+                1 => streams as i32 + 1,
+                2 => streams as i32 - 1,
+                _ => streams as i32,
+            };
+            let pad = r.chance(50);
+            out.push(if pad { 5 } else { 6 });
+            put(out, said);
+            if pad {
+                put(out, new_length(r, p.len()));
+            }
+            put_bytes(out, &p);
+        }
+        16 => {
+            out.push(7);
+            let size = if r.chance(10) { r.pick(&EXTREMES) } else { r.between(0, 1300) as i32 };
+            put(out, size);
+            out.push(r.between(0, 3) as u8);
+        }
+        17 => {
+            out.push(8);
+            let n = r.between(0, 3);
+            let mut b = r.bytes(n);
+            if n > 0 && r.chance(60) {
+                b[0] = r.between(250, 255) as u8;
+            }
+            put_bytes(out, &b);
+        }
+        18 => {
+            out.push(9);
+            put_bytes(out, &packet(r, false, None));
+        }
+        _ => {
+            out.push(10);
+            let rate = if r.chance(90) { r.pick(&[8000, 12000, 16000, 24000, 48000]) } else { r.pick(&EXTREMES) };
+            put(out, rate);
+            put_bytes(out, &packet(r, false, None));
+        }
+    }
+}
+
+// One packet through every call.
+fn every_call(out: &mut Vec<u8>, p: &[u8]) {
+    for d in 0..2 {
+        out.extend([1, d]);
+        put_bytes(out, p);
+    }
+    for (d, pad, room) in [(0u8, 0u8, 6), (1, 0, 6), (0, 1, 5), (1, 1, 5)] {
+        out.extend([2, d, pad]);
+        put(out, 0);
+        put(out, 2);
+        put(out, room);
+        out.push(2);
+        put_bytes(out, p);
+        put_bytes(out, p);
+    }
+    out.push(3);
+    put(out, p.len() as i32 + 2);
+    put_bytes(out, p);
+    out.push(4);
+    put_bytes(out, p);
+    out.push(5);
+    put(out, 2);
+    put(out, p.len() as i32 + 1);
+    put_bytes(out, p);
+    out.push(6);
+    put(out, 2);
+    put_bytes(out, p);
+    out.push(8);
+    put_bytes(out, p);
+    out.push(9);
+    put_bytes(out, p);
+    out.push(10);
+    put(out, 8000);
+    put_bytes(out, p);
+}
+
+fn main() {
+    let words: Vec<String> = std::env::args().skip(1).collect();
+    let mut to = std::io::BufWriter::with_capacity(1 << 20, std::io::stdout().lock());
+    let mut out = Vec::new();
+    if words.len() == 1 && words[0] == "short" {
+        every_call(&mut out, &[]);
+        for a in 0..=255u8 {
+            every_call(&mut out, &[a]);
+            for b in 0..=255u8 {
+                every_call(&mut out, &[a, b]);
+            }
+            to.write_all(&out).unwrap();
+            out.clear();
+        }
+        return;
+    }
+    let numbers: Option<Vec<u64>> = words.iter().map(|w| w.parse().ok()).collect();
+    let Some([seed, count]) = numbers.as_deref() else {
+        eprintln!("usage: generate SEED COUNT | generate short");
+        std::process::exit(2);
+    };
+    // a seed of 0 would stay 0
+    let mut r = Random(seed.wrapping_mul(0x9E37_79B9_7F4A_7C15) | 1);
+    for _ in 0..*count {
+        case(&mut r, &mut out);
+        to.write_all(&out).unwrap();
+        out.clear();
+    }
+}
