@@ -8,6 +8,7 @@ pub mod Sound
 pub mod Facts
 pub mod Lengths
 pub mod Parsed
+pub mod Promises
 pub mod AtSizes
 pub mod AtPadding
 pub mod AtFrames

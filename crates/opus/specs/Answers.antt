@@ -5,10 +5,9 @@ use mathlib.Core.Bool.{Bool, cond}
 use lib.Dec.{ltb}
 use lib.IntN.{ℤ, pos}
 use lib.ListN.{length, replicate}
-use Rattle.opus_defines.specs.Numbers.{refusalNumber}
+use Rattle.opus_defines.specs.Numbers.{verdictNumber}
 use Rattle.opus_defines.specs.declared.Refusal.{Refusal}
 use Rattle.opus_defines.specs.declared.Refusal.the-variants.{BadArg, InvalidPacket}
-use Rattle.opus_defines.specs.declared.Verdict.{Verdict}
 use Rattle.opus_defines.specs.declared.Verdict.the-variants.{Accepted, Refused}
 use Rattle.opus.specs.Reading.{Reading, refused, accepted, read}
 use Rattle.opus.specs.declared.Packet.{Packet}
@@ -30,7 +29,6 @@ packetOf (accepted toc ns first taken) =
 unfoldable pub parsed : Bool → List ℕ → Packet
 parsed sd p = cond (ltb 65535 (length p)) (noPacket BadArg) (packetOf (read sd p))
 
--- the number that the crate returns for each verdict: the count, or the refusal's number
-abbrev pub packetNumber : Verdict → ℕ → ℤ
-packetNumber Accepted count = pos count
-packetNumber (Refused e) count = refusalNumber e
+-- the number that the crate returns: the count, or the refusal's number
+abbrev pub packetNumber : Packet → ℤ
+packetNumber r = verdictNumber (pos (r .count)) (r .verdict)

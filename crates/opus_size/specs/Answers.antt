@@ -5,6 +5,7 @@ use mathlib.Core.Bool.{cond}
 use lib.Dec.{ltb}
 use lib.IntN.{ℤ, pos, negsuc}
 use lib.ListN.{length, drop}
+use Rattle.opus_defines.specs.Numbers.{verdictNumber}
 use Rattle.opus_defines.specs.Outcome.{Outcome, refuses, writes}
 use Rattle.opus_defines.specs.declared.Refusal.the-variants.{BadArg, BufferTooSmall}
 use Rattle.opus_defines.specs.declared.Verdict.the-variants.{Accepted, Refused}
@@ -25,6 +26,10 @@ encodeSize (pos n) s =
 abbrev pub sizeOf : List ℕ → Field → Size
 sizeOf s noField = record { verdict = Refused BadArg; bytes = 0; size = 0 }
 sizeOf s (field n t) = record { verdict = Accepted; bytes = length s - length t; size = n }
+
+-- the number that the crate returns: the bytes used, or the refusal's
+abbrev pub sizeNumber : Size → ℤ
+sizeNumber r = verdictNumber (pos (r .bytes)) (r .verdict)
 
 unfoldable pub parseSize : List ℕ → Size
 parseSize s = sizeOf s (readField s)

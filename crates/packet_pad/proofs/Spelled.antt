@@ -72,7 +72,7 @@ module _ {sd : Bool} {six : ℕ} {p : List ℕ} {frames : List (List ℕ)} (w : 
       ⊎-elim (λ (e : p ≡ compact sd six frames). omega (arith, ap length e)) (λ (h : length (compact sd six frames) < length p). omega arith) (shortest w)
 
 -- ---- pad and unpad
-not-over : (s : List ℕ) (n : ℕ) → n ≤ length s → n ≤ 65535 → over s (pos n) ≡ false
+pub not-over : (s : List ℕ) (n : ℕ) → n ≤ length s → n ≤ 65535 → over s (pos n) ≡ false
 not-over s n h k = rw (le-ltb (length s) n h, le-ltb 65535 n k)
 
 module _ {six : ℕ} {frames : List (List ℕ)} (s : List ℕ) (len : ℕ) (fits : len ≤ length s) (most : len ≤ 65535) (w : Spells false six (take len s) frames) where

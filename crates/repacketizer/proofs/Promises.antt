@@ -5,15 +5,18 @@ use mathlib.Core.Path.{_≡_, refl, sym, _∙_}
 use mathlib.Core.List.{List}
 use mathlib.Core.Bool.{Bool}
 use lib.Dec.{leb}
+use lib.IntN.{pos, negsuc}
 use lib.ListN.{length}
-use Rattle.opus_defines.specs.declared.Refusal.{Refusal}
+use Rattle.laws.proofs.Never.{never}
+use Rattle.opus_defines.specs.Numbers.{verdictNumber}
+use Rattle.opus_defines.specs.declared.Verdict.{Verdict}
 use Rattle.opus_defines.specs.declared.Verdict.the-variants.{Accepted, Refused}
 use Rattle.opus_toc.specs.Toc.{samples}
 use Rattle.opus_toc.proofs.Samples.{lasts-at}
 use Rattle.opus.specs.Reading.{accepted, read}
 use Rattle.repacketizer.specs.declared.OpusRepacketizer.{OpusRepacketizer}
 use Rattle.repacketizer.specs.Collector.{empty, held, leastStore}
-use Rattle.repacketizer.specs.Adding.{added}
+use Rattle.repacketizer.specs.Adding.{added, addedNumber}
 use Rattle.repacketizer.specs.Runs.{State, Ready, AllBytes, afterAdds, framesAccepted}
 use Rattle.repacketizer.proofs.Adds.{add-empty, ends, refused-same}
 use Rattle.repacketizer.proofs.Runs.{empty-ready, runs-ready, runs-held}
@@ -38,6 +41,10 @@ empty-takes-all sd rp store p toc ns first taken e h k r = rw (add-empty sd rp p
 pub limits-agree : (count c : ℕ) → c < 32 → leb (count * samples 8000 c) 960 ≡ leb (count * samples 48000 c) 5760
 limits-agree count c h = lasts-at 8000 refl count c h ∙ sym (lasts-at 48000 refl count c h)
 
--- 7. A refused add changes nothing.
-pub refused-add-changes-nothing : (sd : Bool) (rp : OpusRepacketizer) (p store : List ℕ) (e : Refusal) → added sd rp p store .answer .verdict ≡ Refused e → (added sd rp p store .answer .rp ≡ rp) × (added sd rp p store .store ≡ store)
-refused-add-changes-nothing sd rp p store e r = refused-same (ends sd rp p store) r
+-- 7. A refused add changes nothing; its number is that of the verdict.
+pub refused-add-changes-nothing : (sd : Bool) (rp : OpusRepacketizer) (p store : List ℕ) (n : ℕ) → addedNumber (added sd rp p store .answer) ≡ negsuc n → (added sd rp p store .answer .rp ≡ rp) × (added sd rp p store .store ≡ store)
+refused-add-changes-nothing sd rp p store n r = go (added sd rp p store .answer .verdict) refl r
+  where
+    go : (v : Verdict) → added sd rp p store .answer .verdict ≡ v → verdictNumber (pos 0) v ≡ negsuc n → (added sd rp p store .answer .rp ≡ rp) × (added sd rp p store .store ≡ store)
+    go Accepted e r = never (cc)
+    go (Refused c) e r = refused-same (ends sd rp p store) e

@@ -3,8 +3,10 @@ use Prim.Native.Nat.{ℕ, _+_, _*_}
 use mathlib.Core.List.{List}
 use mathlib.Core.Bool.{Bool, cond, _&&_, _||_}
 use lib.Dec.{ltb, leb, eqb}
+use lib.IntN.{ℤ, pos}
 use lib.ListN.{length}
 use lib.Seq.{sets}
+use Rattle.opus_defines.specs.Numbers.{verdictNumber}
 use Rattle.opus_defines.specs.declared.Refusal.{Refusal}
 use Rattle.opus_defines.specs.declared.Refusal.the-variants.{BadArg, InvalidPacket, InvalidState}
 use Rattle.opus_defines.specs.declared.Verdict.the-variants.{Accepted, Refused}
@@ -20,6 +22,10 @@ use Rattle.repacketizer.specs.Collector.{heldLengths, leastStore, sound}
 pub record Adding : Type 0 where
   pub answer : Added
   pub store : List ℕ
+
+-- the number that the crate returns: 0, or the refusal's
+abbrev pub addedNumber : Added → ℤ
+addedNumber r = verdictNumber (pos 0) (r .verdict)
 
 -- a refusal hands the collector back as it was, and leaves every byte of the store
 abbrev pub refusedAdd : Refusal → OpusRepacketizer → Added

@@ -31,10 +31,17 @@ pub fn byte(b: u8) {
     io::print_hex(STDOUT_FILENO, b as u64, 2);
 }
 
-pub fn bytes(s: &[u8]) {
+// The first n bytes, or all where there are fewer.
+pub fn front(s: &[u8], n: usize) {
     let mut i: usize = 0;
     while i < s.len() {
-        byte(s[i]);
+        if i < n {
+            byte(s[i]);
+        }
         i += 1;
     }
+}
+
+pub fn bytes(s: &[u8]) {
+    front(s, s.len());
 }

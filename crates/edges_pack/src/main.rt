@@ -1,0 +1,185 @@
+// Runs document 01's cases at the edges for the collector, its output, pad, unpad and the multistream calls through the compiled code.
+// A line is a case: what was called, the number it answered, and the buffer.
+use opus_defines::Answer;
+use opus_defines::Verdict;
+use repacketizer::Added;
+use repacketizer::OpusRepacketizer;
+
+// The end of a case: its number and the buffer.
+fn shown(n: i32, buffer: &[u8]) {
+    show::text(b": ");
+    show::number(n);
+    show::text(b" ");
+    show::bytes(buffer);
+    show::text(b"\n");
+}
+
+// What an add answered.
+fn added(a: Added) -> OpusRepacketizer {
+    let v = a.verdict;
+    show::text(b"add: ");
+    let Verdict::Refused(e) = v else {
+        show::text(b"0\n");
+        return a.rp;
+    };
+    show::number(opus_defines::number_of(Answer::Refused(e)));
+    show::text(b"\n");
+    a.rp
+}
+
+fn out(rp: OpusRepacketizer, store: &[u8], begin: i32, end: i32, data: &mut [u8]) {
+    show::text(b"out ");
+    show::number(begin);
+    show::text(b" ");
+    show::number(end);
+    let n = repacketizer_out::opus_repacketizer_out_range(rp, store, begin, end, data);
+    shown(n, data);
+}
+
+fn out_all(rp: OpusRepacketizer, store: &[u8], data: &mut [u8]) {
+    show::text(b"out all");
+    let n = repacketizer_out::opus_repacketizer_out(rp, store, data);
+    shown(n, data);
+}
+
+fn out_self(rp: OpusRepacketizer, store: &[u8], data: &mut [u8], pad: bool) {
+    show::text(b"out self-delimited");
+    let n = repacketizer_out::opus_repacketizer_out_range_impl(rp, store, 0, 2, data, true, pad);
+    shown(n, data);
+}
+
+// Two packets, the second with other lower TOC bits, one that does not fit, and outputs.
+fn collector_cases() {
+    let mut store = [0u8; 61200];
+    let rp0 = repacketizer::opus_repacketizer_init();
+    let rp1 = added(repacketizer::opus_repacketizer_cat(rp0, b"\x00\xaa", &mut store));
+    let rp2 = added(repacketizer::opus_repacketizer_cat(rp1, b"\x00\xbb\xcc", &mut store));
+    let rp3 = added(repacketizer::opus_repacketizer_cat(rp2, b"\x04\xdd", &mut store));
+    show::text(b"held: ");
+    show::number(repacketizer::opus_repacketizer_get_nb_frames(rp3));
+    show::text(b"\n");
+    outputs(rp3, &store);
+}
+
+fn outputs(rp: OpusRepacketizer, store: &[u8]) {
+    let mut five = [238u8; 5];
+    let mut four = [238u8; 4];
+    out_all(rp, store, &mut five);
+    out_all(rp, store, &mut four);
+    let mut three = [238u8; 3];
+    ranges(rp, store, &mut three);
+    wild(rp, store, &mut three);
+    let mut eight = [238u8; 8];
+    out_self(rp, store, &mut eight, false);
+    let mut ten = [238u8; 10];
+    out_self(rp, store, &mut ten, true);
+}
+
+fn ranges(rp: OpusRepacketizer, store: &[u8], three: &mut [u8]) {
+    out(rp, store, 1, 2, three);
+    out(rp, store, 0, 1, three);
+    out(rp, store, 1, 1, three);
+    out(rp, store, 0, 3, three);
+    out(rp, store, -1, 1, three);
+}
+
+// A collector that is not sound, and a store that is too short.
+fn wild(rp: OpusRepacketizer, store: &[u8], three: &mut [u8]) {
+    let mut more = rp;
+    more.nb_frames = 49;
+    out(more, store, 0, 1, three);
+    let short = [0u8; 100];
+    out(rp, &short, 0, 1, three);
+}
+
+fn pad(data: &mut [u8], len: i32, new_len: i32) {
+    show::text(b"pad ");
+    show::number(len);
+    show::text(b" to ");
+    show::number(new_len);
+    let n = packet_pad::opus_packet_pad(data, len, new_len);
+    shown(n, data);
+}
+
+fn unpad(data: &mut [u8], len: i32) {
+    show::text(b"unpad ");
+    show::number(len);
+    let n = packet_pad::opus_packet_unpad(data, len);
+    shown(n, data);
+}
+
+fn pad_to(new_len: i32) {
+    let mut data = [0u8; 6];
+    data[1] = 0xaa;
+    pad(&mut data, 2, new_len);
+    unpad(&mut data, new_len);
+}
+
+// What the chain of a long padding begins with.
+fn pad_far(new_len: i32) {
+    let mut data = [238u8; 300];
+    data[0] = 0;
+    data[1] = 0xaa;
+    let n = packet_pad::opus_packet_pad(&mut data, 2, new_len);
+    show::text(b"pad 2 to ");
+    show::number(new_len);
+    show::text(b": ");
+    show::number(n);
+    show::text(b" ");
+    show::front(&data, 6);
+    show::text(b"\n");
+}
+
+fn pad_cases() {
+    pad_to(2);
+    pad_to(3);
+    pad_to(4);
+    pad_to(5);
+    pad_to(7);
+    pad_to(1);
+    pad_far(258);
+    pad_far(259);
+    let mut four = [3, 2, 0xaa, 0xbb];
+    unpad(&mut four, 4);
+    let mut odd = [1u8, 0xaa];
+    unpad(&mut odd, 2);
+    unpad(&mut odd, 0);
+}
+
+fn streams_pad(data: &mut [u8], len: i32, new_len: i32, streams: i32) {
+    show::text(b"pad ");
+    show::number(len);
+    show::text(b" to ");
+    show::number(new_len);
+    show::text(b" streams ");
+    show::number(streams);
+    let n = multistream::opus_multistream_packet_pad(data, len, new_len, streams);
+    shown(n, data);
+}
+
+fn streams_unpad(data: &mut [u8], len: i32, streams: i32) {
+    show::text(b"unpad ");
+    show::number(len);
+    show::text(b" streams ");
+    show::number(streams);
+    let n = multistream::opus_multistream_packet_unpad(data, len, streams);
+    shown(n, data);
+}
+
+fn stream_cases() {
+    let mut short = [0u8, 1, 0xaa, 0];
+    streams_pad(&mut short, 3, 4, 2);
+    streams_unpad(&mut short, 3, 2);
+    streams_unpad(&mut short, 4, 2);
+    streams_pad(&mut short, 3, 4, 0);
+    streams_pad(&mut short, 3, 4, 256);
+    let mut two = [3u8, 1, 1, 0xaa, 3, 1, 0xbb, 238];
+    streams_pad(&mut two, 7, 8, 2);
+    streams_unpad(&mut two, 8, 2);
+}
+
+fn main() {
+    collector_cases();
+    pad_cases();
+    stream_cases();
+}

@@ -1,0 +1,130 @@
+-- What a readable multistream packet holds, and that its rewritten forms hold the same.
+--     Held, held        its first stream, and those behind it
+--     exchanged         any bytes that spell that stream may take its place
+--     readable-some     it is not empty
+--     repack-holds      the compact packets of its streams hold its streams
+--     LastOf, last-of   its last stream, which may be exchanged likewise
+-- Assumes nothing.
+use Prim.Native.Nat.{ℕ, zero, suc, _+_, _≤_}
+use native.Mathlib.Omega.{arith}
+use mathlib.Core.Path.{_≡_, refl, _∙_}
+use mathlib.Core.List.{List, [], _∷_, _++_, append-assoc}
+use mathlib.Core.Bool.{Bool, true, false}
+use lib.ListN.{length, take, drop}
+use lib.Seq.{drop-append-seam, drop-drop, take-add}
+use borrow.Author.Tests.{le-ltb}
+use Rattle.laws.specs.Bytes.{Bytes}
+use Rattle.laws.proofs.Bytes.{bytes-drop}
+use Rattle.laws.proofs.Never.{never}
+use Rattle.opus_toc.specs.Toc.{upperSix}
+use Rattle.opus.specs.Frames.{cut}
+use Rattle.opus.specs.Format.{Spells, Behind}
+use Rattle.opus.specs.Reading.{Reading, refused, accepted, read, framesOf}
+use Rattle.opus.proofs.Facts.{facts}
+use Rattle.opus.proofs.Sound.{read-spelled}
+use Rattle.opus.proofs.Complete.{spelled-read, spelled-six, spelled-frames}
+use Rattle.opus_header.specs.Compact.{compact}
+use Rattle.packet_pad.proofs.Spelled.{compact-of}
+use Rattle.multistream.specs.declared.Passed.the-variants.{Past}
+use Rattle.multistream.specs.Streams.{passStreams}
+use Rattle.multistream.specs.Unpad.{Repacked, repacked, repackReading, repackStreams}
+use Rattle.multistream.specs.Reading.{Stream, Streams, unreadable, streams, andStreams, thenStreams, readStreams}
+use Rattle.multistream.proofs.Bounds.{taken-within, compact-within}
+
+-- ---- one stream and those behind it
+abbrev pub streamAt : List ℕ → ℕ → List ℕ → ℕ → Stream
+streamAt p toc ns first = record { six = upperSix toc; frames = cut ns (drop first p) }
+
+pub record Held (sd : Bool) (next : List ℕ → Streams) (p : List ℕ) (xs : List Stream) : Type 0 where
+  pub toc : ℕ
+  pub ns : List ℕ
+  pub first : ℕ
+  pub taken : ℕ
+  pub means : read sd p ≡ accepted toc ns first taken
+  pub others : List Stream
+  pub rest : next (drop taken p) ≡ streams others
+  pub all : streamAt p toc ns first ∷ others ≡ xs
+
+pub held : (sd : Bool) (next : List ℕ → Streams) (p : List ℕ) (xs : List Stream) → thenStreams next p (read sd p) ≡ streams xs → Held sd next p xs
+held sd next p xs e = go (read sd p) refl e
+  where
+    go : (x : Reading) → read sd p ≡ x → thenStreams next p x ≡ streams xs → Held sd next p xs
+    go (refused rule) r e = never (cc)
+    go (accepted toc ns first taken) r e = more (next (drop taken p)) refl e
+      where
+        more : (y : Streams) → next (drop taken p) ≡ y → andStreams (streamAt p toc ns first) y ≡ streams xs → Held sd next p xs
+        more unreadable q f = never (cc)
+        more (streams ys) q f =
+            record { toc = toc; ns = ns; first = first; taken = taken; means = r; others = ys; rest = q; all = cc }
+
+-- what is spelled reads as its stream, and then what stands behind it
+spelled-streams : {sd : Bool} {six : ℕ} {c : List ℕ} {frames : List (List ℕ)} (w : Spells sd six c frames) (rest : List ℕ) → Behind sd rest → (next : List ℕ → Streams) → thenStreams next (c ++ rest) (read sd (c ++ rest)) ≡ andStreams (record { six = six; frames = frames }) (next rest)
+unfolding framesOf
+spelled-streams {c = c} w rest b next =
+    let reads = spelled-read w rest b in
+    let frames-are = rw reads at (spelled-frames w rest b) in
+    rw (reads, spelled-six w, frames-are, drop-append-seam c rest)
+
+module _ (sd : Bool) (next : List ℕ → Streams) (p : List ℕ) (bytes : Bytes p) (xs : List Stream) (h : Held sd next p xs) where
+  abbrev pub frames : List (List ℕ)
+  frames = cut (h .ns) (drop (h .first) p)
+
+  abbrev pub six : ℕ
+  six = upperSix (h .toc)
+
+  was : Spells sd six (take (h .taken) p) frames
+  was = read-spelled sd p (h .toc) (h .ns) (h .first) (h .taken) bytes (h .means) .packet
+
+  held-some : 1 ≤ length p
+  held-some =
+      let f = facts sd p (h .toc) (h .ns) (h .first) (h .taken) bytes (h .means) in
+      omega (arith, f .headed, f .block, f .within)
+
+  -- any bytes that spell the stream may take its place
+  pub exchanged : {c : List ℕ} → Spells sd six c frames → (rest : List ℕ) → Behind sd rest → next rest ≡ streams (h .others) → thenStreams next (c ++ rest) (read sd (c ++ rest)) ≡ streams xs
+  exchanged w rest b e = spelled-streams w rest b next ∙ rw (e, h .all)
+
+  -- the compact packet always has room
+  repacks : (nextR : List ℕ → Repacked) (q : List ℕ) → nextR (drop (h .taken) p) ≡ repacked q → repackReading sd nextR p (read sd p) ≡ repacked (compact sd six frames ++ q)
+  repacks nextR q e =
+      let room : length (compact sd six frames) ≤ length p = omega (arith, compact-within sd p (h .toc) (h .ns) (h .first) (h .taken) bytes (h .means), taken-within sd p (h .toc) (h .ns) (h .first) (h .taken) bytes (h .means)) in
+      rw (h .means, le-ltb (length p) (length (compact sd six frames)) room, e)
+
+-- ---- all streams
+pub readable-some : (k : ℕ) (p : List ℕ) → Bytes p → (xs : List Stream) → readStreams k p ≡ streams xs → 1 ≤ length p
+readable-some zero p bytes xs e = held-some false (λ t. streams []) p bytes xs (held false (λ t. streams []) p xs e)
+readable-some (suc k) p bytes xs e = held-some true (readStreams k) p bytes xs (held true (readStreams k) p xs e)
+
+pub repack-holds : (k : ℕ) (p : List ℕ) → Bytes p → (xs : List Stream) → readStreams k p ≡ streams xs → (q : List ℕ) × (repackStreams k p ≡ repacked q) × (readStreams k q ≡ streams xs)
+repack-holds zero p bytes xs e =
+    let next : List ℕ → Streams = λ t. streams [] in
+    let h = held false next p xs e in
+    (_, repacks false next p bytes xs h (λ t. repacked []) [] refl, exchanged false next p bytes xs h (compact-of (was false next p bytes xs h)) [] refl (h .rest))
+repack-holds (suc k) p bytes xs e =
+    let next = readStreams k in
+    let h = held true next p xs e in
+    let i = repack-holds k (drop (h .taken) p) (bytes-drop (h .taken) p bytes) (h .others) (h .rest) in
+    (_, repacks true next p bytes xs h (repackStreams k) (i .0) (i .1), exchanged true next p bytes xs h (compact-of (was true next p bytes xs h)) (i .0) tt (i .2))
+
+-- ---- the last stream
+-- it is at a place behind the others, and anything that reads as it may take its place
+pub record LastOf (k : ℕ) (p : List ℕ) (xs : List Stream) : Type 0 where
+  pub at : ℕ
+  pub passed : passStreams k p ≡ Past at
+  pub last : List Stream
+  pub reads : readStreams 0 (drop at p) ≡ streams last
+  pub keeps : (v : List ℕ) → readStreams 0 v ≡ streams last → readStreams k (take at p ++ v) ≡ streams xs
+
+pub last-of : (k : ℕ) (p : List ℕ) → Bytes p → (xs : List Stream) → readStreams k p ≡ streams xs → LastOf k p xs
+last-of zero p bytes xs e = record { at = 0; passed = refl; last = xs; reads = e; keeps = λ v r. r }
+last-of (suc k) p bytes xs e =
+    let h = held true (readStreams k) p xs e in
+    let n = h .taken in
+    let l = last-of k (drop n p) (bytes-drop n p bytes) (h .others) (h .rest) in
+    record {
+      at = n + l .at;
+      passed = rw (h .means, l .passed);
+      last = l .last;
+      reads = rw (drop-drop (l .at) n p) at (l .reads);
+      keeps = λ v r. rw (take-add n (l .at) p, append-assoc (take n p) (take (l .at) (drop n p)) v) (exchanged true (readStreams k) p bytes xs h (was true (readStreams k) p bytes xs h) (take (l .at) (drop n p) ++ v) tt (l .keeps v r));
+    }

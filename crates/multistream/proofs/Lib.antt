@@ -1,0 +1,13 @@
+pub mod Bounds
+pub mod Calls
+pub mod Checking
+pub mod Counted
+pub mod Holding
+pub mod Kept
+pub mod Lent
+pub mod Passing
+pub mod Promises
+pub mod Repacking
+pub mod Within
+pub mod Written
+pub mod Examples

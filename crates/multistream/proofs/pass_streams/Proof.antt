@@ -1,0 +1,60 @@
+-- `multistream::pass_streams` meets its contract. The invariant: the bytes so far with the streams from here on are all of them.
+-- Assumes nothing.
+use Prim.Native.Nat.{_+_, _-_}
+use native.Mathlib.Omega.{arith}
+use borrow.Author.Needs.{needs}
+use Rattle.multistream.proofs.Passing.{Passing, passing-start, passing-end, passing-stuck, passing-more}
+use Rattle.multistream.proofs.pass_streams.Statement.{statement}
+use Rattle.multistream.proofs.pass_streams.Tie as tie
+
+abbrev Inv-loop : tie.InvT-loop
+Inv-loop s k at₀ i₀ at i = Passing s k at i
+
+abbrev μ-loop : tie.MeasureT-loop
+μ-loop s k at₀ i₀ at i = k - i
+
+loop-holds : tie.Need-loop-holds Inv-loop μ-loop
+loop-holds c = passing-start _ _
+
+returns : tie.Need-returns Inv-loop μ-loop
+returns c =
+    let p = c .before .before in
+    let i = p .before .before in
+    let l = i .before .loop in
+    let b = i .before .before .before in
+    passing-stuck (b .args .«data» .now) (b .args .k) (l .at) (l .i) (l .inv) (p .opus-packet-parse-impl .result) (p .opus-packet-parse-impl .ensures) (i .loop-test .taken) _ (c .enum-told2 .given .1) (b .pre)
+
+next : (c : tie.After-struct-known Inv-loop μ-loop) → let p = c .before .before .before in let i = p .before .before in let l = i .before .loop in let a = i .before .before .before .args in Passing (a .«data» .now) (a .k) (l .at + p .opus-packet-parse-impl .result .taken) (l .i + 1)
+next c =
+    let p = c .before .before .before in
+    let i = p .before .before in
+    let l = i .before .loop in
+    let k = i .before .before in
+    let a = k .before .args in
+    passing-more (a .«data» .now) (a .k) (l .at) (l .i) (l .inv) (p .opus-packet-parse-impl .result) (p .opus-packet-parse-impl .ensures) (i .loop-test .taken) (c .before .enum-told .given .1) (record { byte = λ j. k .shared-slice-known .given j .fits })
+
+returns-2 : tie.Need-returns-2 Inv-loop μ-loop
+returns-2 c =
+    let l = c .before .loop in
+    let a = c .before .before .before .args in
+    passing-end (a .«data» .now) (a .k) (l .at) (l .i) (l .inv) (c .loop-test .left)
+
+pub pass-streams-spec : {M : Type 1} → statement M
+pass-streams-spec =
+    tie.close
+    (tie.spec
+    Inv-loop
+    μ-loop
+    loop-holds
+    (λ c. c .before .loop .inv .inside)
+    (λ c. search needs)
+    (λ c. search needs)
+    (λ c κs. search needs)
+    (λ c. search needs)
+    (λ c. search needs)
+    returns
+    (λ c. omega (arith, next c .inside))
+    (λ c. search needs)
+    (λ c. search needs)
+    next
+    returns-2)

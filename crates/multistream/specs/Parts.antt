@@ -1,0 +1,55 @@
+-- What the parts of the multistream calls answer. Contracts of functions that are not public cite these.
+use Prim.Native.Nat.{ℕ, _+_, _-_}
+use mathlib.Core.List.{List, []}
+use mathlib.Core.Bool.{Bool, true, false, cond}
+use lib.Dec.{ltb}
+use lib.IntN.{ℤ, pos, negsuc}
+use lib.ListN.{length, take, drop}
+use Rattle.opus_defines.specs.declared.Refusal.the-variants.{BufferTooSmall, InvalidPacket}
+use Rattle.opus_defines.specs.declared.Verdict.{Verdict}
+use Rattle.opus_defines.specs.declared.Verdict.the-variants.{Accepted}
+use Rattle.opus_defines.specs.declared.Verdict.the-variants as Verdicts
+use Rattle.opus_toc.specs.Toc.{upperSix}
+use Rattle.opus.specs.Frames.{cut}
+use Rattle.opus.specs.Reading.{Reading, refused, accepted, read}
+use Rattle.opus_header.specs.Compact.{compact}
+use Rattle.multistream.specs.declared.Checked.{Checked}
+use Rattle.multistream.specs.declared.Checked.the-variants.{Taken, Refused}
+use Rattle.multistream.specs.declared.Places.{Places}
+
+-- the stream count, and 0 where it is not 1 to 255
+abbrev pub streamsOf : ℤ → ℕ
+streamsOf (negsuc n) = 0
+streamsOf (pos n) = cond (ltb 255 n) 0 n
+
+-- what is left from a place on, of the first len bytes
+abbrev pub stream : List ℕ → ℕ → ℕ → List ℕ
+stream s from len = take (len - from) (drop from s)
+
+abbrev pub compactBy : Bool → List ℕ → Reading → List ℕ
+compactBy sd s (refused rule) = []
+compactBy sd s (accepted toc ns first taken) = compact sd (upperSix toc) (cut ns (drop first s))
+
+-- the compact packet of the stream at the front of s, and the bytes that the stream takes
+abbrev pub compactOf : Bool → List ℕ → List ℕ
+compactOf sd s = compactBy sd s (read sd s)
+
+abbrev pub takenBy : Reading → ℕ
+takenBy (refused rule) = 0
+takenBy (accepted toc ns first taken) = taken
+
+abbrev pub isAccepted : Reading → Bool
+isAccepted (refused rule) = false
+isAccepted (accepted toc ns first taken) = true
+
+abbrev pub nextPlaces : ℕ → ℕ → Bool → List ℕ → Places
+nextPlaces to from sd s = record { to = to + length (compactOf sd s); from = from + takenBy (read sd s) }
+
+abbrev pub checkedBy : List ℕ → Bool → Reading → Checked
+checkedBy s sd (refused rule) = Refused InvalidPacket
+checkedBy s sd (accepted toc ns first taken) =
+    cond (ltb (length s) (length (compact sd (upperSix toc) (cut ns (drop first s))))) (Refused BufferTooSmall) (Taken taken)
+
+abbrev pub verdictBy : Checked → Verdict
+verdictBy (Taken n) = Accepted
+verdictBy (Refused e) = Verdicts.Refused e

@@ -1,0 +1,54 @@
+-- What a buyer may count on when a packet is read: it is accepted exactly where a packet of RFC 6716 stands.
+-- Assumes nothing.
+use Prim.Native.Nat.{ℕ, _≤_}
+use mathlib.Core.Path.{_≡_, refl, sym}
+use mathlib.Core.List.{List, _++_}
+use mathlib.Core.Bool.{Bool}
+use lib.IntN.{pos}
+use lib.ListN.{length, take, drop, take-append-drop}
+use borrow.Author.Tests.{le-ltb}
+use Rattle.laws.specs.Bytes.{Bytes}
+use Rattle.opus_defines.specs.declared.Verdict.the-variants.{Accepted}
+use Rattle.opus_toc.specs.Toc.{upperSix}
+use Rattle.opus.specs.Frames.{cut}
+use Rattle.opus.specs.Format.{Spells, Behind}
+use Rattle.opus.specs.Reading.{read}
+use Rattle.opus.specs.Answers.{parsed, packetNumber}
+use Rattle.opus.proofs.Complete.{spelled-read}
+use Rattle.opus.proofs.Sound.{read-spelled}
+use Rattle.opus.proofs.Parsed.{lengthsOf, parsed-accepted}
+
+-- a packet of RFC 6716 stands at the front of p, and is all of it in the ordinary form
+pub record Stands (sd : Bool) (p : List ℕ) : Type 0 where
+  pub six : ℕ
+  pub frames : List (List ℕ)
+  pub whole : List ℕ
+  pub rest : List ℕ
+  pub packet : Spells sd six whole frames
+  pub front : p ≡ whole ++ rest
+  pub behind : Behind sd rest
+
+module _ (sd : Bool) (p : List ℕ) (short : length p ≤ 65535) where
+  pub what-stands-is-accepted : Stands sd p → parsed sd p .verdict ≡ Accepted
+  unfolding parsed
+  what-stands-is-accepted w =
+      rw (le-ltb 65535 (length p) short, w .front, spelled-read (w .packet) (w .rest) (w .behind))
+
+  pub what-is-accepted-stands : Bytes p → parsed sd p .verdict ≡ Accepted → Stands sd p
+  what-is-accepted-stands bytes v =
+      let r = parsed sd p in
+      let d = parsed-accepted sd p r refl v in
+      let w = read-spelled sd p (r .toc) (lengthsOf r) (r .first) (r .taken) bytes (d .means) in
+      record {
+        six = upperSix (r .toc);
+        frames = cut (lengthsOf r) (drop (r .first) p);
+        whole = take (r .taken) p;
+        rest = drop (r .taken) p;
+        packet = w .packet;
+        front = sym (take-append-drop (r .taken) p);
+        behind = w .behind;
+      }
+
+-- the number that is returned is then the count, and else -1 or -4
+pub accepted-number : (sd : Bool) (p : List ℕ) → parsed sd p .verdict ≡ Accepted → packetNumber (parsed sd p) ≡ pos (parsed sd p .count)
+accepted-number sd p v = rw v
