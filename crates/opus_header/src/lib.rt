@@ -252,5 +252,5 @@ pub fn form_for(count: usize, need: usize, room: usize, pad: bool) -> Form
     if count < 3 {
         return Form::Full(room - (need + 1));
     }
-    Form::Full(room - (need + 0))
+    Form::Full(room - need)
 }

@@ -1,5 +1,6 @@
 -- `opus_header::form_for` meets its contract: the tests on the way to each `return` say which form it is.
 -- Assumes nothing.
+use native.Mathlib.Nat.{add-zero}
 use borrow.Author.Needs.{needs}
 use borrow.Author.Tests.{not-true, not-false, lt-ltb, le-ltb}
 use Rattle.opus_header.proofs.form_for.Statement.{statement}
@@ -16,7 +17,7 @@ returns-3 : tie.Need-returns-3
 returns-3 c = rw (not-false (c .before .before .before .args .pad) (c .before .before .if1 .left), lt-ltb _ _ (c .before .if2 .left), lt-ltb _ _ (c .if3 .taken))
 
 returns-4 : tie.Need-returns-4
-returns-4 c = rw (not-false (c .before .before .before .args .pad) (c .before .before .if1 .left), lt-ltb _ _ (c .before .if2 .left), le-ltb _ _ (c .if3 .left))
+returns-4 c = rw (not-false (c .before .before .before .args .pad) (c .before .before .if1 .left), lt-ltb _ _ (c .before .if2 .left), le-ltb _ _ (c .if3 .left), add-zero)
 
 pub form-for-spec : {M : Type 1} → statement M
 form-for-spec =
@@ -29,6 +30,5 @@ form-for-spec =
     (λ c. search needs)
     (λ c. search needs)
     returns-3
-    (λ c. search needs)
     (λ c. search needs)
     returns-4)
