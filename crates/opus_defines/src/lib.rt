@@ -1,8 +1,9 @@
-// The return numbers (opus_defines.rs of the crate, document 01 'Return numbers'), and the only two places where a signed number is
+// The return numbers (opus_defines.rs of the crate, document 01 'Return numbers'), and the only places where a signed number is
 // taken apart or made.
 ghost use mathlib.Core.Path.{_≡_};
 ghost use Prim.Native.Nat.{ℕ, _<_, _^_};
-ghost use Rattle.opus_defines.specs.Numbers.{refusalNumber, numberOf, countOf};
+ghost use lib.IntN.{pos};
+ghost use Rattle.opus_defines.specs.Numbers.{refusalNumber, numberOf, verdictNumber, countOf};
 
 // Added, padded, nothing to pad.
 pub const OPUS_OK: u16 = 0;
@@ -48,6 +49,16 @@ pub fn number_of(a: Answer) -> i32
     match a {
         Answer::Number(n) => n as i32,
         Answer::Refused(e) => refusal_number(e),
+    }
+}
+
+// The number that a call returns whose answer is a record: n where it is accepted.
+pub fn verdict_number(n: u16, v: Verdict) -> i32
+    ensures { λ r. ⌜ r ≡ verdictNumber (pos n) v ⌝ }
+{
+    match v {
+        Verdict::Accepted => n as i32,
+        Verdict::Refused(e) => refusal_number(e),
     }
 }
 

@@ -15,6 +15,7 @@ use opus_defines::Refusal;
 pub struct Samples48k(pub u16);
 
 // Samples at 8 kHz: what the collector's limit of 120 ms is counted in.
+#[repr(C)]
 pub struct Samples8k(pub u16);
 
 fn place(toc: u8) -> usize

@@ -19,6 +19,7 @@ use opus_toc::Samples8k;
 pub const LEAST_STORE: usize = 61200;
 
 // Frames lie one behind another in a lent store; here are their lengths, the first packet's TOC byte and the frame size at 8 kHz.
+#[repr(C)]
 pub struct OpusRepacketizer {
     pub toc: u8,
     pub nb_frames: u16,

@@ -1,0 +1,52 @@
+-- The core's answers fit the records that C sees.
+--     parsed-few, size-few         the count and the bytes used are small numbers
+--     size-passed, rate-passed     a call is passed the bits of a signed number
+-- Assumes nothing.
+use Prim.Native.Nat.{ℕ, _-_, _≤_}
+use native.Mathlib.Omega.{arith}
+use mathlib.Core.Path.{_≡_, refl}
+use mathlib.Core.List.{List, [], _∷_}
+use mathlib.Core.Bool.{Bool, true, false}
+use lib.Dec.{ltb}
+use lib.IntN.{ℤ}
+use lib.ListN.{length, length-append}
+use mir.Syntax.{w32}
+use mir.Val.{toZ, ofZ, SFits}
+use mir.ValLaws.{toZ-ofZ}
+use Rattle.laws.specs.Bytes.{Bytes}
+use Rattle.laws.proofs.Never.{by-test}
+use Rattle.opus_size.specs.Size.{Field, noField, field, lengthField, readField}
+use Rattle.opus_size.specs.Answers.{encodeSize, sizeOf, parseSize}
+use Rattle.opus_size.proofs.Fields.{width, field-was}
+use Rattle.opus_toc.specs.Answers.{samplesPerFrame}
+use Rattle.opus.specs.Reading.{Reading, refused, accepted, read}
+use Rattle.opus.specs.Answers.{packetOf, parsed}
+use Rattle.opus.proofs.Facts.{facts}
+
+-- at most 48 frames
+pub parsed-few : (sd : Bool) (p : List ℕ) → Bytes p → parsed sd p .count ≤ 48
+unfolding parsed
+parsed-few sd p bytes = by-test (ltb 65535 (length p)) (λ t. rw t (omega arith)) (λ t. rw t (go (read sd p) refl))
+  where
+    go : (x : Reading) → read sd p ≡ x → packetOf (read sd p) .count ≤ 48
+    go (refused rule) q = rw q (omega arith)
+    go (accepted toc ns first taken) q = rw q (facts sd p toc ns first taken bytes q .few)
+
+-- a field of one or two bytes
+pub size-few : (s : List ℕ) → Bytes s → parseSize s .bytes ≤ 2
+unfolding parseSize
+size-few s bytes = go (readField s) refl
+  where
+    go : (x : Field) → readField s ≡ x → sizeOf s (readField s) .bytes ≤ 2
+    go noField q = rw q (omega arith)
+    go (field n t) q =
+        let w = field-was s t n bytes q .0 in
+        let few : length s - length t ≤ 2 = rw w (omega (arith, length-append (lengthField n) t, width n)) in
+        rw q few
+
+-- ---- numbers as C hands them over: a call is passed the bits of the number
+pub size-passed : (size : ℤ) (s : List ℕ) → SFits w32 size → encodeSize size s ≡ encodeSize (toZ w32 (ofZ w32 size)) s
+size-passed size s f = rw (toZ-ofZ w32 size f)
+
+pub rate-passed : (s : List ℕ) (rate : ℤ) → SFits w32 rate → samplesPerFrame s (toZ w32 (ofZ w32 rate)) ≡ samplesPerFrame s rate
+rate-passed s rate f = rw (toZ-ofZ w32 rate f)

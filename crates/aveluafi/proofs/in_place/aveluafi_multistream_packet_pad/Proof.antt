@@ -1,0 +1,21 @@
+-- `aveluafi::in_place::aveluafi_multistream_packet_pad` meets its contract: it is the core's pad.
+-- Assumes nothing.
+use mathlib.Core.Path.{_≡_, _∙_}
+use borrow.Author.Needs.{needs}
+use mir.Syntax.{w32}
+use mir.Val.{toZ, ofZ}
+use Rattle.packet_pad.proofs.Calls.{meets}
+use Rattle.multistream.proofs.Calls.{pad-passed}
+use Rattle.aveluafi.proofs.in_place.aveluafi_multistream_packet_pad.Statement.{statement}
+use Rattle.aveluafi.proofs.in_place.aveluafi_multistream_packet_pad.Tie as tie
+
+returns : tie.Need-returns
+returns c =
+    let r = c .before .before .opus-multistream-packet-pad in
+    let s = c .before .before .before .before .before in
+    let a = s .args in
+    let back : toZ w32 (ofZ w32 (r .result)) ≡ r .result = search needs in
+    meets (pad-passed (a .«data» .now) (a .len) (a .new-len) (a .nb-streams) (s .fits .len) (s .fits .new-len) (s .fits .nb-streams)) (back ∙ r .ensures .0) (r .ensures .1)
+
+pub aveluafi-multistream-packet-pad-spec : {M : Type 1} → statement M
+aveluafi-multistream-packet-pad-spec = tie.close (tie.spec (λ c κs. search needs) (λ c. search needs) returns)

@@ -1,0 +1,20 @@
+-- `aveluafi::reading::aveluafi_packet_parse_impl` meets its contract: it is the core's answer, as a record.
+-- Assumes nothing.
+use mathlib.Core.Path.{_≡_, _∙_, ap}
+use borrow.Author.Needs.{needs}
+use Rattle.laws.specs.Bytes.{Bytes}
+use Rattle.aveluafi.specs.Records.{packetRecord}
+use Rattle.aveluafi.proofs.Records.{parsed-few}
+use Rattle.aveluafi.proofs.reading.aveluafi_packet_parse_impl.Statement.{statement}
+use Rattle.aveluafi.proofs.reading.aveluafi_packet_parse_impl.Tie as tie
+
+packet-record-requires : tie.Need-packet-record-requires
+packet-record-requires c κs =
+    let k = c .before .shared-slice-known in
+    rw (c .opus-packet-parse-impl .ensures) (parsed-few (c .before .before .args .self-delimited) (c .before .before .args .«data» .now) (record { byte = λ i. k .given i .fits }))
+
+returns : tie.Need-returns
+returns c = c .packet-record .ensures ∙ ap packetRecord (c .before .opus-packet-parse-impl .ensures)
+
+pub aveluafi-packet-parse-impl-spec : {M : Type 1} → statement M
+aveluafi-packet-parse-impl-spec = tie.close (tie.spec (λ c κs. search needs) packet-record-requires returns)

@@ -1,0 +1,102 @@
+// Length fields, the TOC byte and the packet reader, exported.
+ghost use mathlib.Core.Path.{_≡_};
+ghost use mathlib.Core.Bool.{false};
+ghost use Prim.Native.Nat.{_≤_};
+ghost use Rattle.opus_defines.specs.Numbers.{numberOf};
+ghost use Rattle.opus_size.specs.Answers.{encodeSize, parseSize};
+ghost use Rattle.opus_toc.specs.Answers.{samplesPerFrame, nbFrames};
+ghost use Rattle.opus.specs.Answers.{parsed};
+ghost use Rattle.aveluafi.specs.Records.{sizeRecord, packetRecord};
+use opus::Packet;
+use opus_size::Size;
+
+// A length that was read.
+#[repr(C)]
+pub struct AveluafiSize {
+    // The bytes of its field, or the refusal.
+    pub number: i32,
+    pub size: u16,
+}
+
+// A packet that was read; all zeros beside a refusal.
+#[repr(C)]
+pub struct AveluafiPacket {
+    // The frames, or the refusal.
+    pub number: i32,
+    pub toc: u8,
+    pub lengths: [u16; 48],
+    // The place of the first frame, and the bytes taken with padding.
+    pub payload_offset: usize,
+    pub packet_offset: usize,
+}
+
+#[no_mangle]
+pub extern "C" fn aveluafi_encode_size(size: i32, data: &mut [u8]) -> i32
+    ensures number { λ r. ⌜ r ≡ encodeSize size (now («data» .entry)) .number ⌝ }
+    ensures bytes { λ _. ⌜ now («data» .exit) ≡ encodeSize size (now («data» .entry)) .bytes ⌝ }
+{
+    opus_size::encode_size(size, data)
+}
+
+fn size_record(s: Size) -> AveluafiSize
+    requires { ⌜ s .bytes ≤ 2 ⌝ }
+    ensures { λ r. ⌜ r ≡ sizeRecord s ⌝ }
+{
+    let v = s.verdict;
+    AveluafiSize {
+        number: opus_defines::verdict_number(s.bytes as u16, v),
+        size: s.size,
+    }
+}
+
+#[no_mangle]
+pub extern "C" fn aveluafi_parse_size(data: &[u8]) -> AveluafiSize
+    ensures { λ r. ⌜ r ≡ sizeRecord (parseSize (now («data» .entry))) ⌝ }
+{
+    size_record(opus_size::parse_size(data))
+}
+
+#[no_mangle]
+pub extern "C" fn aveluafi_packet_get_samples_per_frame(data: &[u8], rate: i32) -> i32
+    ensures { λ r. ⌜ r ≡ samplesPerFrame (now («data» .entry)) rate ⌝ }
+{
+    opus_toc::opus_packet_get_samples_per_frame(data, rate)
+}
+
+#[no_mangle]
+pub extern "C" fn aveluafi_packet_get_nb_frames(data: &[u8]) -> i32
+    ensures { λ r. ⌜ r ≡ numberOf (nbFrames (now («data» .entry))) ⌝ }
+{
+    opus_toc::opus_packet_get_nb_frames(data)
+}
+
+fn packet_record(p: Packet) -> AveluafiPacket
+    requires { ⌜ p .count ≤ 48 ⌝ }
+    ensures { λ r. ⌜ r ≡ packetRecord p ⌝ }
+{
+    let v = p.verdict;
+    let lengths = p.lengths;
+    AveluafiPacket {
+        number: opus_defines::verdict_number(p.count as u16, v),
+        toc: p.toc,
+        lengths,
+        payload_offset: p.first,
+        packet_offset: p.taken,
+    }
+}
+
+// The packet in the named delimiting.
+#[no_mangle]
+pub extern "C" fn aveluafi_packet_parse_impl(data: &[u8], self_delimited: bool) -> AveluafiPacket
+    ensures { λ r. ⌜ r ≡ packetRecord (parsed «self_delimited» (now («data» .entry))) ⌝ }
+{
+    packet_record(opus::opus_packet_parse_impl(data, self_delimited))
+}
+
+// The ordinary packet.
+#[no_mangle]
+pub extern "C" fn aveluafi_packet_parse(data: &[u8]) -> AveluafiPacket
+    ensures { λ r. ⌜ r ≡ packetRecord (parsed false (now («data» .entry))) ⌝ }
+{
+    packet_record(opus::opus_packet_parse(data))
+}

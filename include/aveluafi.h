@@ -1,0 +1,141 @@
+/* Aveluafi: Opus packets packed into longer ones, cut again, padded and stripped of padding.
+ *
+ * The C interface of the proved archive libaveluafi.a (`rt staticlib aveluafi`, x86-64 Linux). Names follow unopus 0.0.1 and libopus, under a
+ * prefix of their own, so that a program can link libopus too.
+ *
+ * Every call takes every value of its arguments: it answers, or refuses by one of the negative numbers below, and then it has changed nothing:
+ * the collector and every byte lent to it are as they were. No call allocates, locks, keeps a pointer or touches anything global; calls on
+ * different memory may run at the same time.
+ *
+ * What a caller must see to, since C cannot say it:
+ *   - a pointer and a count name that many bytes that can be read, and for a pointer without `const` written; a count of 0 may go with any
+ *     pointer that is not NULL; a collector pointer is never NULL;
+ *   - the memory of two arguments of one call does not overlap (data, store and collector are three different places);
+ *   - no other thread writes to that memory during the call;
+ *   - a `bool` is 0 or 1, as C's own is.
+ */
+#ifndef AVELUAFI_H
+#define AVELUAFI_H
+
+#include <stdbool.h>
+#include <stddef.h>
+#include <stdint.h>
+
+#ifdef __cplusplus
+extern "C" {
+#endif
+
+/* ---- numbers; docs/RUNBOOK.md says of each what to do */
+
+#define AVELUAFI_OK 0                 /* added, padded, nothing to pad */
+#define AVELUAFI_BAD_ARG (-1)         /* an argument outside its bound; an empty packet for samples, frame count, pad or unpad; a range that is not
+                                         0 <= begin < end <= frames held; a store under 61,200 bytes */
+#define AVELUAFI_BUFFER_TOO_SMALL (-2) /* the output is longer than the destination */
+#define AVELUAFI_INTERNAL_ERROR (-3)  /* unpad would have made the packet longer; proved never to happen */
+#define AVELUAFI_INVALID_PACKET (-4)  /* the packet breaks a rule of RFC 6716; its upper six TOC bits are not those held; over 120 ms held */
+#define AVELUAFI_INVALID_STATE (-6)   /* the collector was not made by these calls, or was written over */
+
+/* ---- bounds */
+
+#define AVELUAFI_MOST_PACKET 65535    /* bytes of a packet, of a destination, of a padded length */
+#define AVELUAFI_MOST_FRAME 1275      /* bytes of a frame */
+#define AVELUAFI_MOST_FRAMES 48       /* frames of a packet or a collector; 120 ms */
+#define AVELUAFI_LEAST_STORE 61200    /* bytes of a collector's store: 48 frames of 1275 */
+
+/* ---- length fields (RFC 6716, 3.2.1) */
+
+struct aveluafi_size {
+    int32_t number;                   /* the bytes of the field (1 or 2), or the refusal */
+    uint16_t size;                    /* the length; 0 beside a refusal */
+};
+
+/* Writes the field of a length of 0 to 1275 at the front of data, and answers its bytes. -1 for another size, -2 where data_len is too short. */
+int32_t aveluafi_encode_size(int32_t size, uint8_t *data, size_t data_len);
+
+/* Reads the length at the front of data. -1 where the field is cut short. */
+struct aveluafi_size aveluafi_parse_size(const uint8_t *data, size_t data_len);
+
+/* ---- the TOC byte (RFC 6716, 3.1) */
+
+/* Samples of one frame at 8000, 12000, 16000, 24000 or 48000 Hz. -1 for an empty packet or another rate. */
+int32_t aveluafi_packet_get_samples_per_frame(const uint8_t *data, size_t data_len, int32_t rate);
+
+/* Frames that the packet says it has; only its first two bytes are looked at. -1 for an empty packet, -4 for code 3 without a second byte. */
+int32_t aveluafi_packet_get_nb_frames(const uint8_t *data, size_t data_len);
+
+/* ---- the packet reader (RFC 6716, 3.2 to 3.4 and appendix B) */
+
+struct aveluafi_packet {
+    int32_t number;                   /* the frames, 1 to 48, or the refusal; beside a refusal every other field is 0 */
+    uint8_t toc;
+    uint16_t lengths[AVELUAFI_MOST_FRAMES]; /* of each frame; 0 past the last */
+    size_t payload_offset;            /* where the first frame stands; each next frame stands right behind the one before */
+    size_t packet_offset;             /* the bytes taken, padding included */
+};
+
+/* Reads an ordinary packet, which takes all of data. -1 above 65,535 bytes, -4 where a rule fails. */
+struct aveluafi_packet aveluafi_packet_parse(const uint8_t *data, size_t data_len);
+
+/* The same in the named delimiting. A self-delimited packet ends where it says; bytes behind it are not looked at. */
+struct aveluafi_packet aveluafi_packet_parse_impl(const uint8_t *data, size_t data_len, bool self_delimited);
+
+/* ---- the collector
+ *
+ * The caller lends the struct and a store of at least 61,200 bytes, the same one to every call on it. Its frames stand one behind another in the
+ * store, copied there: an added packet is needed no longer. The fields are for the calls alone; one that they did not write is refused
+ * with -6 if it is unsound, and cannot fault anything.
+ *
+ * Order of refusals: -6, then a short store (-1), then a packet or destination over 65,535 bytes (-1), then the rest. */
+
+struct aveluafi_repacketizer {
+    uint8_t toc;
+    uint16_t nb_frames;
+    uint16_t framesize;               /* samples of a frame at 8 kHz */
+    uint16_t len[AVELUAFI_MOST_FRAMES];
+};
+
+/* Makes any memory of this size an empty collector; a reset is the same. */
+void aveluafi_repacketizer_init(struct aveluafi_repacketizer *rp);
+
+/* Adds an ordinary packet, and answers 0. -4 for one that cannot be read, whose upper six TOC bits are not those held, or that would make
+ * the frames held last over 120 ms. */
+int32_t aveluafi_repacketizer_cat(struct aveluafi_repacketizer *rp, const uint8_t *data, size_t data_len, uint8_t *store, size_t store_len);
+
+/* The frames held. */
+int32_t aveluafi_repacketizer_get_nb_frames(const struct aveluafi_repacketizer *rp);
+
+/* Writes all frames held as one ordinary packet, the shortest there is, and answers its bytes. -2 where data_len is shorter than it; -1 where
+ * no frame is held. Bytes past the packet stay. */
+int32_t aveluafi_repacketizer_out(const struct aveluafi_repacketizer *rp, const uint8_t *store, size_t store_len, uint8_t *data, size_t data_len);
+
+/* The same for the frames begin to end - 1. -1 unless 0 <= begin < end <= frames held. */
+int32_t aveluafi_repacketizer_out_range(const struct aveluafi_repacketizer *rp, const uint8_t *store, size_t store_len, int32_t begin, int32_t end,
+                                        uint8_t *data, size_t data_len);
+
+/* The same in the named delimiting; with pad the packet fills data, and data_len is answered. */
+int32_t aveluafi_repacketizer_out_range_impl(const struct aveluafi_repacketizer *rp, const uint8_t *store, size_t store_len, int32_t begin, int32_t end,
+                                             uint8_t *data, size_t data_len, bool self_delimited, bool pad);
+
+/* ---- pad and unpad, in place
+ *
+ * data_len is the whole buffer; len, the packet in its front; new_len, the length asked for. -1 for a length below 1, above the buffer or above
+ * 65,535, and where new_len is below len. */
+
+/* Makes the packet new_len bytes long, and answers 0; equal lengths answer 0 without a look at the packet. -4 for one that cannot be read. */
+int32_t aveluafi_packet_pad(uint8_t *data, size_t data_len, int32_t len, int32_t new_len);
+
+/* Strips the padding, in the shortest form, and answers the bytes of the packet, which is never longer than it was. Bytes past it stay. -4 for one
+ * that cannot be read. */
+int32_t aveluafi_packet_unpad(uint8_t *data, size_t data_len, int32_t len);
+
+/* The same for nb_streams packets, 1 to 255, all but the last self-delimited. Padding goes into the last stream. -1 for another number of streams. */
+int32_t aveluafi_multistream_packet_pad(uint8_t *data, size_t data_len, int32_t len, int32_t new_len, int32_t nb_streams);
+
+/* Every stream is brought into its shortest form; answers the bytes of all. All streams are read before the first is rewritten. */
+int32_t aveluafi_multistream_packet_unpad(uint8_t *data, size_t data_len, int32_t len, int32_t nb_streams);
+
+#ifdef __cplusplus
+}
+#endif
+
+#endif
