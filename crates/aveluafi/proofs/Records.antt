@@ -1,20 +1,24 @@
 -- The core's answers fit the records that C sees.
 --     parsed-few, size-few         the count and the bytes used are small numbers
 --     size-passed, rate-passed     a call is passed the bits of a signed number
+--     record-..                    an add, by its verdict
 -- Assumes nothing.
 use Prim.Native.Nat.{ℕ, _-_, _≤_}
 use native.Mathlib.Omega.{arith}
 use mathlib.Core.Path.{_≡_, refl}
-use mathlib.Core.List.{List, [], _∷_}
-use mathlib.Core.Bool.{Bool, true, false}
+use mathlib.Core.List.{List}
+use mathlib.Core.Bool.{Bool}
 use lib.Dec.{ltb}
-use lib.IntN.{ℤ}
+use lib.IntN.{ℤ, pos}
 use lib.ListN.{length, length-append}
 use mir.Syntax.{w32}
 use mir.Val.{toZ, ofZ, SFits}
 use mir.ValLaws.{toZ-ofZ}
 use Rattle.laws.specs.Bytes.{Bytes}
 use Rattle.laws.proofs.Never.{by-test}
+use Rattle.opus_defines.specs.Numbers.{refusalNumber}
+use Rattle.opus_defines.specs.declared.Refusal.{Refusal}
+use Rattle.opus_defines.specs.declared.Verdict.the-variants.{Accepted, Refused}
 use Rattle.opus_size.specs.Size.{Field, noField, field, lengthField, readField}
 use Rattle.opus_size.specs.Answers.{encodeSize, sizeOf, parseSize}
 use Rattle.opus_size.proofs.Fields.{width, field-was}
@@ -22,6 +26,12 @@ use Rattle.opus_toc.specs.Answers.{samplesPerFrame}
 use Rattle.opus.specs.Reading.{Reading, refused, accepted, read}
 use Rattle.opus.specs.Answers.{packetOf, parsed}
 use Rattle.opus.proofs.Facts.{facts}
+use Rattle.repacketizer.specs.Adding.{added}
+use Rattle.repacketizer.specs.declared.OpusRepacketizer.{OpusRepacketizer}
+use Rattle.repacketizer.specs.declared.Added.{Added}
+use Rattle.repacketizer.proofs.Adds.{ends, refused-same}
+use Rattle.aveluafi.specs.Records.{addRecord}
+use Rattle.aveluafi.specs.declared.collector.AddRecord.{AddRecord}
 
 -- at most 48 frames
 pub parsed-few : (sd : Bool) (p : List ℕ) → Bytes p → parsed sd p .count ≤ 48
@@ -50,3 +60,17 @@ size-passed size s f = rw (toZ-ofZ w32 size f)
 
 pub rate-passed : (s : List ℕ) (rate : ℤ) → SFits w32 rate → samplesPerFrame s (toZ w32 (ofZ w32 rate)) ≡ samplesPerFrame s rate
 rate-passed s rate f = rw (toZ-ofZ w32 rate f)
+
+-- ---- an add, by its verdict
+abbrev answered : ℤ → OpusRepacketizer → AddRecord
+answered n rp = record { number = n; rp = rp }
+
+pub record-accepted : (a : Added) → a .verdict ≡ Accepted → answered (pos 0) (a .rp) ≡ addRecord a
+record-accepted a v = rw v
+
+-- on a refusal it is the collector that was handed in
+pub record-refused : (sd : Bool) (rp : OpusRepacketizer) (p store : List ℕ) {a : Added} {e : Refusal} → a ≡ added sd rp p store .answer → a .verdict ≡ Refused e → answered (refusalNumber e) rp ≡ addRecord (added sd rp p store .answer)
+record-refused sd rp p store {a} {e} is v =
+    let q : added sd rp p store .answer .verdict ≡ Refused e = rw is at v in
+    let same = refused-same (ends sd rp p store) q .0 in
+    rw (q, same)

@@ -7,6 +7,7 @@ ghost use Rattle.repacketizer.specs.Collector.{empty, nbFramesHeld};
 ghost use Rattle.repacketizer.specs.Adding.{addedNumber, added};
 ghost use Rattle.repacketizer_out.specs.Output.{outRange, outAll};
 ghost use Rattle.aveluafi.specs.Records.{addRecord};
+use opus_defines::Verdict;
 use repacketizer::OpusRepacketizer;
 
 // What an add hands back: its number, and the collector.
@@ -23,17 +24,23 @@ pub extern "C" fn aveluafi_repacketizer_init(rp: &mut OpusRepacketizer)
     *rp = repacketizer::opus_repacketizer_init();
 }
 
-// An add, by value.
+// An add, by value: on a refusal the collector handed in is handed back.
 pub fn cat(rp: OpusRepacketizer, data: &[u8], store: &mut [u8]) -> AddRecord
     ensures { λ r. ⌜ (r ≡ addRecord (added false rp (now («data» .entry)) (now (store .entry)) .answer))
         × (now (store .exit) ≡ added false rp (now («data» .entry)) (now (store .entry)) .store) ⌝ }
 {
     let a = repacketizer::opus_repacketizer_cat(rp, data, store);
-    let v = a.verdict;
     let next = a.rp;
+    let v = a.verdict;
+    let Verdict::Refused(e) = v else {
+        return AddRecord {
+            number: 0,
+            rp: next,
+        };
+    };
     AddRecord {
-        number: opus_defines::verdict_number(opus_defines::OPUS_OK, v),
-        rp: next,
+        number: opus_defines::refusal_number(e),
+        rp: rp,
     }
 }
 

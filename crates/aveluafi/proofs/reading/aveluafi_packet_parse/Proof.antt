@@ -1,9 +1,8 @@
 -- `aveluafi::reading::aveluafi_packet_parse` meets its contract: it is the core's answer, as a record.
 -- Assumes nothing.
-use mathlib.Core.Path.{_≡_, _∙_, ap}
+use mathlib.Core.Path.{_∙_, ap}
 use mathlib.Core.Bool.{false}
 use borrow.Author.Needs.{needs}
-use Rattle.laws.specs.Bytes.{Bytes}
 use Rattle.aveluafi.specs.Records.{packetRecord}
 use Rattle.aveluafi.proofs.Records.{parsed-few}
 use Rattle.aveluafi.proofs.reading.aveluafi_packet_parse.Statement.{statement}

@@ -1,8 +1,7 @@
 -- `aveluafi::reading::aveluafi_parse_size` meets its contract: it is the core's answer, as a record.
 -- Assumes nothing.
-use mathlib.Core.Path.{_≡_, _∙_, ap}
+use mathlib.Core.Path.{_∙_, ap}
 use borrow.Author.Needs.{needs}
-use Rattle.laws.specs.Bytes.{Bytes}
 use Rattle.aveluafi.specs.Records.{sizeRecord}
 use Rattle.aveluafi.proofs.Records.{size-few}
 use Rattle.aveluafi.proofs.reading.aveluafi_parse_size.Statement.{statement}

@@ -6,7 +6,6 @@ use borrow.Author.Needs.{needs}
 use lib.IntN.{ℤ}
 use mir.Syntax.{w32}
 use mir.Val.{toZ, ofZ}
-use Rattle.aveluafi.specs.declared.reading.AveluafiSize.{AveluafiSize}
 use Rattle.aveluafi.proofs.reading.size_record.Statement.{statement}
 use Rattle.aveluafi.proofs.reading.size_record.Tie as tie
 
