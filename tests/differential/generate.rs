@@ -77,8 +77,16 @@ fn chain(out: &mut Vec<u8>, r: &mut Random, pad: usize) {
 // A packet by the rules, with this TOC byte's upper six bits if there is one.
 fn good_packet(r: &mut Random, delim: bool, six: Option<u8>) -> Vec<u8> {
     let six = six.unwrap_or_else(|| r.byte() & 0xfc);
-    let code = r.pick(&[0u8, 0, 1, 2, 3, 3, 3, 3]);
-    let most = (5760 / samples(six)).min(48);
+    packet_within(r, delim, six, 48, 1275)
+}
+
+// The same of at most so many frames, of at most so many bytes each.
+fn packet_within(r: &mut Random, delim: bool, six: u8, frames: usize, bytes: usize) -> Vec<u8> {
+    let code = match r.pick(&[0u8, 0, 1, 2, 3, 3, 3, 3]) {
+        1 | 2 if frames < 2 => 0,
+        code => code,
+    };
+    let most = (5760 / samples(six)).min(frames);
     let many = if r.chance(20) { most } else { most.min(6) };
     let equal = r.chance(50);
     let count = match code {
@@ -87,9 +95,9 @@ fn good_packet(r: &mut Random, delim: bool, six: Option<u8>) -> Vec<u8> {
         _ if r.chance(15) => most,
         _ => r.between(1, many),
     };
-    let first = frame_length(r);
+    let first = frame_length(r).min(bytes);
     let same = code == 1 || (code == 3 && equal) || r.chance(25);
-    let lens: Vec<usize> = (0..count).map(|_| if same { first } else { frame_length(r) }).collect();
+    let lens: Vec<usize> = (0..count).map(|_| if same { first } else { frame_length(r).min(bytes) }).collect();
     let mut p = vec![six | code];
     let pad = match r.below(10) {
         0 => r.pick(&[0, 1, 253, 254, 255, 256, 508, 509]),
@@ -207,37 +215,150 @@ fn new_length(r: &mut Random, len: usize) -> i32 {
     n.min(65536) as i32
 }
 
-fn collector_case(r: &mut Random, out: &mut Vec<u8>) {
-    let six = r.byte() & 0xfc;
-    let n = r.pick(&[0usize, 1, 1, 2, 2, 2, 3, 3, 4, 6, 9]);
-    let mut packets = Vec::new();
-    for _ in 0..n {
-        let other = r.chance(6);
-        packets.push(packet(r, false, if other { None } else { Some(six) }));
+// ---- what a collector holds, so that ranges and rooms stand at their edges; a mistake here would make worse cases, never a wrong verdict
+
+fn field_bytes(n: usize) -> usize {
+    if n < 252 { 1 } else { 2 }
+}
+
+// The lengths in an ordinary packet, if it can be read.
+fn lengths(p: &[u8]) -> Option<Vec<usize>> {
+    let toc = *p.first()?;
+    let (mut at, mut end) = (1, p.len());
+    let (mut count, mut unequal) = (if toc & 3 == 0 { 1 } else { 2 }, toc & 3 == 2);
+    if toc & 3 == 3 {
+        let flags = *p.get(1)?;
+        at = 2;
+        count = (flags & 0x3f) as usize;
+        unequal = flags & 0x80 != 0;
+        let mut more = flags & 0x40 != 0;
+        while more {
+            let n = *p.get(at)?;
+            at += 1;
+            more = n == 255;
+            end = end.checked_sub(if more { 254 } else { n as usize })?;
+        }
     }
-    let sum: usize = packets.iter().map(|p| p.len()).sum();
-    let held = r.between(0, 2 * n + 2) as i32;
-    let (begin, end) = match r.below(8) {
-        0 => (r.pick(&EXTREMES), r.pick(&EXTREMES)),
-        1 => (0, r.pick(&EXTREMES)),
-        2 => (r.between(0, 5) as i32, r.between(0, 50) as i32),
-        3 => (r.between(0, 3) as i32, held),
-        _ => (0, held),
+    if count == 0 || count * samples(toc) > 5760 {
+        return None;
+    }
+    let mut lens = Vec::new();
+    if unequal {
+        for _ in 1..count {
+            let first = *p.get(at)? as usize;
+            let n = if first < 252 { first } else { first + 4 * *p.get(at + 1)? as usize };
+            at += field_bytes(n);
+            lens.push(n);
+        }
+        lens.push(end.checked_sub(at + lens.iter().sum::<usize>())?);
+    } else {
+        let rest = end.checked_sub(at)?;
+        lens = vec![rest / count; count];
+        if rest % count != 0 {
+            return None;
+        }
+    }
+    (p.len() <= 65535 && lens[count - 1] <= 1275).then_some(lens)
+}
+
+// The lengths held after all adds.
+fn held_after(packets: &[Vec<u8>]) -> Vec<usize> {
+    let (mut toc, mut held) = (0, Vec::new());
+    for p in packets {
+        let Some(lens) = lengths(p) else { continue };
+        if held.is_empty() {
+            toc = p[0];
+        }
+        if p[0] & 0xfc == toc & 0xfc && (held.len() + lens.len()) * samples(toc) <= 5760 {
+            held.extend(lens);
+        }
+    }
+    held
+}
+
+// Bytes of the compact packet of these frames.
+fn compact(lens: &[usize], delim: bool) -> usize {
+    let Some((last, others)) = lens.split_last() else { return 0 };
+    let equal = others.iter().all(|n| n == last);
+    let fields: usize = if equal { 0 } else { others.iter().map(|n| field_bytes(*n)).sum() };
+    let delimiter = if delim { field_bytes(*last) } else { 0 };
+    1 + (lens.len() > 2) as usize + fields + delimiter + lens.iter().sum::<usize>()
+}
+
+// Adds for one collector: packets of one kind, now and then another kind or a damaged one, often up to 120 ms and past it.
+fn adds(r: &mut Random) -> Vec<Vec<u8>> {
+    // 2.5 ms more often than the others, since only there 48 frames fit
+    let six = if r.chance(25) { 0x80 | (r.byte() & 0x64) } else { r.byte() & 0xfc };
+    let full = 5760 / samples(six);
+    let n = match r.below(20) {
+        0 => 0,
+        1..=10 => r.between(1, 4),
+        11 => r.between(1, 50),
+        12..=15 => full + r.between(0, 2),
+        _ => r.between(1, full),
     };
-    let room = match r.below(10) {
-        0 => r.between(0, 6),
-        1 => sum + r.between(0, 700),
-        2 if r.chance(2) => r.pick(&[65535, 65536]),
-        3..=6 => (sum + r.between(0, 8)).saturating_sub(r.between(0, 10)),
-        _ => r.between(0, sum + 8),
-    };
+    let frames = r.pick(&[1, 1, 2, 48]);
+    let bytes = r.pick(&[0, 3, 3, 60, 1275]);
+    (0..n)
+        .map(|_| match r.below(25) {
+            0 => packet(r, false, Some(six)),
+            1 => {
+                let other = six ^ r.pick(&[4, 8, 16, 32, 64, 128]);
+                packet_within(r, false, other, frames, bytes)
+            }
+            _ => packet_within(r, false, six, frames, bytes),
+        })
+        .collect()
+}
+
+// A range of so many frames held: right, or wrong at an edge.
+fn range(r: &mut Random, held: usize) -> (i32, i32) {
+    let all = held as i32;
+    let begin = r.below(held.max(1)) as i32;
+    let far = r.pick(&EXTREMES);
+    match r.below(20) {
+        0 => (far, all),
+        1 => (begin, far),
+        2 => (far, r.pick(&EXTREMES)),
+        3 => r.pick(&[(all, all), (begin, begin), (all, all + 1), (begin + 1, begin)]),
+        4 => r.pick(&[(begin, all + 1), (-1, all), (-1, begin)]),
+        5..=11 => (0, all),
+        12 => (all - 1, all),
+        _ => (begin, begin + 1 + r.below((all - begin).max(1) as usize) as i32),
+    }
+}
+
+// A room for an output of this size.
+fn room(r: &mut Random, size: usize) -> usize {
+    match r.below(20) {
+        0..=3 => size,
+        4..=7 => size.saturating_sub(1),
+        8 => size.saturating_sub(r.between(2, 6)),
+        9 => r.below(size + 1),
+        10..=13 => size + 1,
+        14 | 15 => size + r.between(2, 6),
+        16 => size + r.pick(&[254, 255, 256, 257, 258, 509, 510, 511, 512]),
+        17 => size + r.between(0, 900),
+        18 if r.chance(6) => r.between(size.min(65536), 65536),
+        19 if r.chance(6) => r.pick(&[65534, 65535, 65536]),
+        _ => size + 2,
+    }
+}
+
+fn collector_case(r: &mut Random, out: &mut Vec<u8>) {
+    let packets = adds(r);
+    let held = held_after(&packets);
+    let (begin, end) = range(r, held.len());
+    let (delim, pad) = (r.chance(40), r.chance(40));
+    let right = 0 <= begin && begin < end && end as usize <= held.len();
+    let size = compact(if right { &held[begin as usize..end as usize] } else { &held }, delim);
     out.push(2);
-    out.push(r.chance(40) as u8);
-    out.push(r.chance(40) as u8);
+    out.push(delim as u8);
+    out.push(pad as u8);
     put(out, begin);
     put(out, end);
-    put(out, room.min(65536) as i32);
-    out.push(n as u8);
+    put(out, room(r, size).min(65536) as i32);
+    out.push(packets.len() as u8);
     for p in &packets {
         put_bytes(out, p);
     }

@@ -1,0 +1,137 @@
+//! A safe Rust face of include/aveluafi.h: slices in the place of pointers and counts, refusals as an enum. No call panics or allocates,
+//! whatever it is given, and a refused one has changed nothing. The calls that are left out go the same way.
+//!
+//! Why `unsafe` is right here: a slice's pointer is never null and names as many bytes as it says; `&mut` rules out that two arguments
+//! overlap or that another thread writes to them; and no call keeps a pointer.
+
+use std::ops::Range;
+
+pub const MOST_FRAMES: usize = 48;
+pub const LEAST_STORE: usize = 61200;
+
+/// Why a call was refused; `refusal as i32` is the header's number.
+#[derive(Clone, Copy, Debug, PartialEq, Eq)]
+pub enum Refusal {
+    BadArg = -1,
+    BufferTooSmall = -2,
+    InternalError = -3,
+    InvalidPacket = -4,
+    InvalidState = -6,
+}
+
+fn answer(number: i32) -> Result<usize, Refusal> {
+    match number {
+        0.. => Ok(number as usize),
+        -1 => Err(Refusal::BadArg),
+        -2 => Err(Refusal::BufferTooSmall),
+        -4 => Err(Refusal::InvalidPacket),
+        -6 => Err(Refusal::InvalidState),
+        _ => Err(Refusal::InternalError),
+    }
+}
+
+// A length as the header takes it. One that does not fit is far above the bound of 65,535 and is refused as any other above it.
+fn length(n: usize) -> i32 {
+    n.min(i32::MAX as usize) as i32
+}
+
+#[repr(C)]
+struct Repacketizer {
+    toc: u8,
+    nb_frames: u16,
+    framesize: u16,
+    len: [u16; MOST_FRAMES],
+}
+
+/// A packet that was read.
+#[repr(C)]
+pub struct Packet {
+    number: i32,
+    pub toc: u8,
+    lengths: [u16; MOST_FRAMES],
+    payload_offset: usize,
+    /// Bytes taken, padding included.
+    pub packet_offset: usize,
+}
+
+#[link(name = "aveluafi", kind = "static")]
+extern "C" {
+    fn aveluafi_packet_parse_impl(data: *const u8, data_len: usize, self_delimited: bool) -> Packet;
+    fn aveluafi_repacketizer_init(rp: *mut Repacketizer);
+    fn aveluafi_repacketizer_cat(rp: *mut Repacketizer, data: *const u8, data_len: usize, store: *mut u8, store_len: usize) -> i32;
+    fn aveluafi_repacketizer_get_nb_frames(rp: *const Repacketizer) -> i32;
+    fn aveluafi_repacketizer_out(rp: *const Repacketizer, store: *const u8, store_len: usize, data: *mut u8, data_len: usize) -> i32;
+    fn aveluafi_repacketizer_out_range(
+        rp: *const Repacketizer,
+        store: *const u8,
+        store_len: usize,
+        begin: i32,
+        end: i32,
+        data: *mut u8,
+        data_len: usize,
+    ) -> i32;
+    fn aveluafi_packet_pad(data: *mut u8, data_len: usize, len: i32, new_len: i32) -> i32;
+    fn aveluafi_packet_unpad(data: *mut u8, data_len: usize, len: i32) -> i32;
+}
+
+/// Reads the packet at the front of `data`: an ordinary one takes all of it, a self-delimited one ends where it says.
+pub fn read(data: &[u8], self_delimited: bool) -> Result<Packet, Refusal> {
+    let packet = unsafe { aveluafi_packet_parse_impl(data.as_ptr(), data.len(), self_delimited) };
+    answer(packet.number).map(|_| packet)
+}
+
+impl Packet {
+    /// The place of each frame in the bytes that were read.
+    pub fn frames(&self) -> impl Iterator<Item = Range<usize>> + '_ {
+        let lengths = self.lengths.iter().take(self.number as usize);
+        lengths.scan(self.payload_offset, |at, n| {
+            let begin = *at;
+            *at += *n as usize;
+            Some(begin..*at)
+        })
+    }
+}
+
+/// Makes the packet in the first `len` bytes fill `data`.
+pub fn pad(data: &mut [u8], len: usize) -> Result<(), Refusal> {
+    let new_len = length(data.len());
+    answer(unsafe { aveluafi_packet_pad(data.as_mut_ptr(), data.len(), length(len), new_len) }).map(|_| ())
+}
+
+/// Strips the padding of the packet that fills `data`, and answers the bytes that are left in its front.
+pub fn unpad(data: &mut [u8]) -> Result<usize, Refusal> {
+    answer(unsafe { aveluafi_packet_unpad(data.as_mut_ptr(), data.len(), length(data.len())) })
+}
+
+/// Frames of one kind, at most 120 ms, copied into a borrowed store.
+pub struct Collector<'a> {
+    rp: Repacketizer,
+    store: &'a mut [u8; LEAST_STORE],
+}
+
+impl<'a> Collector<'a> {
+    pub fn new(store: &'a mut [u8; LEAST_STORE]) -> Self {
+        let mut rp = Repacketizer { toc: 0, nb_frames: 0, framesize: 0, len: [0; MOST_FRAMES] };
+        unsafe { aveluafi_repacketizer_init(&mut rp) };
+        Collector { rp, store }
+    }
+    /// Adds the frames of an ordinary packet behind those held.
+    pub fn add(&mut self, packet: &[u8]) -> Result<(), Refusal> {
+        let (store, n) = (self.store.as_mut_ptr(), self.store.len());
+        answer(unsafe { aveluafi_repacketizer_cat(&mut self.rp, packet.as_ptr(), packet.len(), store, n) }).map(|_| ())
+    }
+    pub fn held(&self) -> usize {
+        answer(unsafe { aveluafi_repacketizer_get_nb_frames(&self.rp) }).unwrap_or(0)
+    }
+    /// Writes all frames held as one packet in its shortest form, and answers its bytes.
+    pub fn write(&self, data: &mut [u8]) -> Result<usize, Refusal> {
+        let (store, n) = (self.store.as_ptr(), self.store.len());
+        answer(unsafe { aveluafi_repacketizer_out(&self.rp, store, n, data.as_mut_ptr(), data.len()) })
+    }
+    /// The same for a range of them.
+    pub fn write_range(&self, frames: Range<usize>, data: &mut [u8]) -> Result<usize, Refusal> {
+        let (store, n) = (self.store.as_ptr(), self.store.len());
+        let (begin, end) = (length(frames.start), length(frames.end));
+        answer(unsafe { aveluafi_repacketizer_out_range(&self.rp, store, n, begin, end, data.as_mut_ptr(), data.len()) })
+    }
+}
