@@ -1,11 +1,11 @@
--- `replay::text` is safe and ends.
+-- `replay::output::bytes_hex` is safe and ends.
 -- Assumes nothing.
 use mathlib.Core.Path.{_≡_}
 use Prim.Native.Nat.{_-_, _≤_}
 use borrow.Author.Needs.{needs}
 use lib.ListN.{length}
-use Rattle.replay.proofs.text.Statement.{statement}
-use Rattle.replay.proofs.text.Tie as tie
+use Rattle.replay.proofs.output.bytes_hex.Statement.{statement}
+use Rattle.replay.proofs.output.bytes_hex.Tie as tie
 
 abbrev Inv-loop : tie.InvT-loop
 Inv-loop out₀ at s next₀ i₀ out next i = (i ≤ length s) × (length out ≡ length out₀)
@@ -13,8 +13,8 @@ Inv-loop out₀ at s next₀ i₀ out next i = (i ≤ length s) × (length out �
 abbrev μ-loop : tie.MeasureT-loop
 μ-loop out₀ at s next₀ i₀ out next i = length s - i
 
-pub text-spec : {M : Type 1} → statement M
-text-spec =
+pub bytes-hex-spec : {M : Type 1} → statement M
+bytes-hex-spec =
     tie.close
     (tie.spec
     Inv-loop

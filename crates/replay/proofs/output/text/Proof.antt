@@ -1,27 +1,24 @@
--- `replay::sizes` is safe and ends.
+-- `replay::output::text` is safe and ends.
 -- Assumes nothing.
 use mathlib.Core.Path.{_≡_}
 use Prim.Native.Nat.{_-_, _≤_}
 use borrow.Author.Needs.{needs}
 use lib.ListN.{length}
-use Rattle.replay.proofs.sizes.Statement.{statement}
-use Rattle.replay.proofs.sizes.Tie as tie
+use Rattle.replay.proofs.output.text.Statement.{statement}
+use Rattle.replay.proofs.output.text.Tie as tie
 
 abbrev Inv-loop : tie.InvT-loop
-Inv-loop out₀ at lengths count next₀ i₀ out next i = (i ≤ 48) × (length out ≡ length out₀)
+Inv-loop out₀ at s next₀ i₀ out next i = (i ≤ length s) × (length out ≡ length out₀)
 
 abbrev μ-loop : tie.MeasureT-loop
-μ-loop out₀ at lengths count next₀ i₀ out next i = 48 - i
+μ-loop out₀ at s next₀ i₀ out next i = length s - i
 
-pub sizes-spec : {M : Type 1} → statement M
-sizes-spec =
+pub text-spec : {M : Type 1} → statement M
+text-spec =
     tie.close
     (tie.spec
     Inv-loop
     μ-loop
-    (λ c. search needs)
-    (λ c. search needs)
-    (λ c. search needs)
     (λ c. search needs)
     (λ c. search needs)
     (λ c κs. search needs)

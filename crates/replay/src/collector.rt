@@ -1,0 +1,255 @@
+// Kind 2: an empty collector, adds, and an output.
+use crate::input::ByteAt;
+use crate::input::Cursor;
+use crate::input::Line;
+use crate::input::NumberAt;
+use crate::input::byte;
+use crate::input::bytes;
+use crate::input::four;
+use crate::input::length;
+use crate::input::signed;
+use crate::output::buffer;
+use crate::output::number;
+use crate::output::put;
+use crate::output::refusal;
+use crate::output::text;
+use opus_defines::Verdict;
+use repacketizer::OpusRepacketizer;
+
+// What a byte holds before a call where the case does not give it.
+const UNSET: u8 = 238;
+
+// What a case of the collector asks for: the output behind the adds, and how many adds.
+struct Order {
+    delim: u8,
+    pad: u8,
+    begin: usize,
+    end: usize,
+    room: usize,
+    count: u8,
+}
+
+enum OrderAt {
+    Is(Order, Cursor),
+    Cut,
+}
+
+fn order_flags(input: &mut [u8], c: Cursor) -> OrderAt {
+    let ByteAt::Is(delim, d) = byte(input, c) else {
+        return OrderAt::Cut;
+    };
+    let ByteAt::Is(pad, e) = byte(input, d) else {
+        return OrderAt::Cut;
+    };
+    OrderAt::Is(
+        Order {
+            delim,
+            pad,
+            begin: 0,
+            end: 0,
+            room: 0,
+            count: 0,
+        },
+        e,
+    )
+}
+
+fn order_range(input: &mut [u8], c: Cursor, o: Order) -> OrderAt {
+    let NumberAt::Is(begin, d) = four(input, c) else {
+        return OrderAt::Cut;
+    };
+    let NumberAt::Is(end, e) = four(input, d) else {
+        return OrderAt::Cut;
+    };
+    let mut p = o;
+    p.begin = begin;
+    p.end = end;
+    OrderAt::Is(p, e)
+}
+
+fn order_room(input: &mut [u8], c: Cursor, o: Order) -> OrderAt {
+    let NumberAt::Is(room, d) = length(input, c) else {
+        return OrderAt::Cut;
+    };
+    let ByteAt::Is(count, e) = byte(input, d) else {
+        return OrderAt::Cut;
+    };
+    let mut p = o;
+    p.room = room;
+    p.count = count;
+    OrderAt::Is(p, e)
+}
+
+fn ordered(input: &mut [u8], c: Cursor) -> OrderAt {
+    let OrderAt::Is(o, d) = order_flags(input, c) else {
+        return OrderAt::Cut;
+    };
+    let OrderAt::Is(p, e) = order_range(input, d, o) else {
+        return OrderAt::Cut;
+    };
+    order_room(input, e, p)
+}
+
+// Between two adds: whether the case is whole so far, and where the input and the output go on.
+struct Adding {
+    whole: bool,
+    next: usize,
+    end: usize,
+    out: usize,
+    rp: OpusRepacketizer,
+}
+
+fn no_more(s: Adding) -> Adding {
+    let mut t = s;
+    t.whole = false;
+    t
+}
+
+// The number of an add, and a space.
+fn verdict(out: &mut [u8], at: usize, v: Verdict) -> usize {
+    let Verdict::Refused(e) = v else {
+        return text(out, at, b"0 ");
+    };
+    let next = refusal(out, at, e);
+    put(out, next, b' ')
+}
+
+fn added(work: &[u8], n: usize, store: &mut [u8], out: &mut [u8], s: Adding, c: Cursor) -> Adding {
+    if work.len() < n {
+        return no_more(s);
+    }
+    let rp = s.rp;
+    let a = repacketizer::opus_repacketizer_cat(rp, &work[0..n], store);
+    let v = a.verdict;
+    let held = a.rp;
+    Adding {
+        whole: true,
+        next: c.at,
+        end: c.end,
+        out: verdict(out, s.out, v),
+        rp: held,
+    }
+}
+
+// One packet is read and added.
+fn add(input: &mut [u8], work: &mut [u8], store: &mut [u8], out: &mut [u8], s: Adding) -> Adding {
+    let c = Cursor {
+        at: s.next,
+        end: s.end,
+    };
+    let NumberAt::Is(n, d) = bytes(input, c, work) else {
+        return no_more(s);
+    };
+    added(work, n, store, out, s, d)
+}
+
+fn add_all(
+    input: &mut [u8],
+    work: &mut [u8],
+    store: &mut [u8],
+    out: &mut [u8],
+    start: Adding,
+    n: u8,
+) -> Adding {
+    let mut s = start;
+    let mut left = n;
+    while 0 < left {
+        s = add(input, work, store, out, s);
+        if !s.whole {
+            return s;
+        }
+        left -= 1;
+    }
+    s
+}
+
+// Fills the first n bytes of the workination.
+pub fn unset(work: &mut [u8], n: usize) {
+    if n <= work.len() {
+        blocks::fill(work, 0, n, UNSET);
+    }
+}
+
+fn out_range(rp: OpusRepacketizer, store: &[u8], o: Order, work: &mut [u8]) -> i32 {
+    let room = o.room;
+    if work.len() < room {
+        return 0;
+    }
+    let begin = signed(o.begin);
+    let end = signed(o.end);
+    repacketizer_out::opus_repacketizer_out_range_impl(
+        rp,
+        store,
+        begin,
+        end,
+        &mut work[0..room],
+        o.delim != 0,
+        o.pad != 0,
+    )
+}
+
+// The line behind the adds.
+fn collected(
+    out: &mut [u8],
+    at: usize,
+    rp: OpusRepacketizer,
+    store: &[u8],
+    o: Order,
+    work: &mut [u8],
+) -> usize {
+    let a = text(out, at, b"; ");
+    let b = number(out, a, repacketizer::opus_repacketizer_get_nb_frames(rp));
+    let c = text(out, b, b" ; ");
+    unset(work, o.room);
+    let d = number(out, c, out_range(rp, store, o, work));
+    let e = text(out, d, b" ; ");
+    buffer(out, e, work, o.room)
+}
+
+fn started(c: Cursor, at: usize) -> Adding {
+    Adding {
+        whole: true,
+        next: c.at,
+        end: c.end,
+        out: at,
+        rp: repacketizer::opus_repacketizer_init(),
+    }
+}
+
+fn add_case(
+    input: &mut [u8],
+    c: Cursor,
+    work: &mut [u8],
+    store: &mut [u8],
+    out: &mut [u8],
+    at: usize,
+    o: Order,
+) -> Line {
+    let s = add_all(input, work, store, out, started(c, at), o.count);
+    if !s.whole {
+        return Line::Malformed;
+    }
+    let rp = s.rp;
+    let next = collected(out, s.out, rp, store, o, work);
+    Line::Is(
+        Cursor {
+            at: s.next,
+            end: s.end,
+        },
+        next,
+    )
+}
+
+pub fn collect_case(
+    input: &mut [u8],
+    c: Cursor,
+    work: &mut [u8],
+    store: &mut [u8],
+    out: &mut [u8],
+    at: usize,
+) -> Line {
+    let OrderAt::Is(o, d) = ordered(input, c) else {
+        return Line::Malformed;
+    };
+    add_case(input, d, work, store, out, at, o)
+}

@@ -1,0 +1,114 @@
+// Kinds 7 to 10: length fields, the frame count and samples.
+use crate::collector::unset;
+use crate::input::ByteAt;
+use crate::input::Cursor;
+use crate::input::Line;
+use crate::input::NumberAt;
+use crate::input::byte;
+use crate::input::bytes;
+use crate::input::four;
+use crate::input::signed;
+use crate::output::decimal;
+use crate::output::number;
+use crate::output::number_and_buffer;
+use crate::output::refusal;
+use crate::reader::one_size;
+use opus_defines::Verdict;
+
+fn encode(work: &mut [u8], size: usize, room: usize) -> i32 {
+    if work.len() < room {
+        return 0;
+    }
+    opus_size::encode_size(signed(size), &mut work[0..room])
+}
+
+fn encoded(out: &mut [u8], at: usize, work: &mut [u8], size: usize, room: usize) -> usize {
+    unset(work, room);
+    let r = encode(work, size, room);
+    number_and_buffer(out, at, r, work, room)
+}
+
+pub fn encode_case(
+    input: &mut [u8],
+    c: Cursor,
+    work: &mut [u8],
+    out: &mut [u8],
+    at: usize,
+) -> Line {
+    let NumberAt::Is(size, d) = four(input, c) else {
+        return Line::Malformed;
+    };
+    let ByteAt::Is(room, e) = byte(input, d) else {
+        return Line::Malformed;
+    };
+    Line::Is(e, encoded(out, at, work, size, room as usize))
+}
+
+fn length_field(out: &mut [u8], at: usize, work: &[u8], n: usize) -> usize {
+    if work.len() < n {
+        return at;
+    }
+    let s = opus_size::parse_size(&work[0..n]);
+    let v = s.verdict;
+    let Verdict::Refused(e) = v else {
+        let next = decimal(out, at, s.bytes);
+        return one_size(out, next, s.size);
+    };
+    refusal(out, at, e)
+}
+
+pub fn length_case(
+    input: &mut [u8],
+    c: Cursor,
+    work: &mut [u8],
+    out: &mut [u8],
+    at: usize,
+) -> Line {
+    let NumberAt::Is(n, d) = bytes(input, c, work) else {
+        return Line::Malformed;
+    };
+    Line::Is(d, length_field(out, at, work, n))
+}
+
+fn frames(work: &[u8], n: usize) -> i32 {
+    if work.len() < n {
+        return 0;
+    }
+    opus_toc::opus_packet_get_nb_frames(&work[0..n])
+}
+
+pub fn frames_case(
+    input: &mut [u8],
+    c: Cursor,
+    work: &mut [u8],
+    out: &mut [u8],
+    at: usize,
+) -> Line {
+    let NumberAt::Is(n, d) = bytes(input, c, work) else {
+        return Line::Malformed;
+    };
+    Line::Is(d, number(out, at, frames(work, n)))
+}
+
+fn samples(work: &[u8], n: usize, rate: usize) -> i32 {
+    if work.len() < n {
+        return 0;
+    }
+    opus_toc::opus_packet_get_samples_per_frame(&work[0..n], signed(rate))
+}
+
+pub fn samples_case(
+    input: &mut [u8],
+    c: Cursor,
+    work: &mut [u8],
+    out: &mut [u8],
+    at: usize,
+) -> Line {
+    let NumberAt::Is(rate, d) = four(input, c) else {
+        return Line::Malformed;
+    };
+    let NumberAt::Is(n, e) = bytes(input, d, work) else {
+        return Line::Malformed;
+    };
+    Line::Is(e, number(out, at, samples(work, n, rate)))
+}

@@ -1,0 +1,116 @@
+// Text put into the output buffer: each function answers the next place in `out`.
+use libc::STDOUT_FILENO;
+use opus_defines::Count;
+use opus_defines::Refusal;
+
+// The output is written once it holds so many bytes. A line has fewer than 132,000.
+const FULL: usize = 65536;
+
+pub fn put(out: &mut [u8], at: usize, b: u8) -> usize {
+    if at < out.len() {
+        out[at] = b;
+        return at + 1;
+    }
+    at
+}
+
+pub fn text(out: &mut [u8], at: usize, s: &[u8]) -> usize {
+    let mut next = at;
+    let mut i: usize = 0;
+    while i < s.len() {
+        next = put(out, next, s[i]);
+        i += 1;
+    }
+    next
+}
+
+pub fn decimal(out: &mut [u8], at: usize, n: usize) -> usize {
+    let mut digits = [0u8; 20];
+    let k = io::decimal(n as u64, &mut digits);
+    text(out, at, &digits[..k])
+}
+
+fn refusal_digit(n: i32) -> u8 {
+    match n {
+        -1 => b'1',
+        -2 => b'2',
+        -3 => b'3',
+        -4 => b'4',
+        -6 => b'6',
+        _ => b'?',
+    }
+}
+
+fn refused(out: &mut [u8], at: usize, n: i32) -> usize {
+    let next = put(out, at, b'-');
+    put(out, next, refusal_digit(n))
+}
+
+// A number that a call returned.
+pub fn number(out: &mut [u8], at: usize, n: i32) -> usize {
+    let Count::Is(k) = opus_defines::count_of(n) else {
+        return refused(out, at, n);
+    };
+    decimal(out, at, k)
+}
+
+pub fn refusal(out: &mut [u8], at: usize, e: Refusal) -> usize {
+    number(out, at, opus_defines::refusal_number(e))
+}
+
+fn digit(d: u8) -> u8 {
+    if d < 10 {
+        return 48 + d;
+    }
+    if d < 16 {
+        return 87 + d;
+    }
+    63
+}
+
+fn byte_hex(out: &mut [u8], at: usize, b: u8) -> usize {
+    let next = put(out, at, digit(b / 16));
+    put(out, next, digit(b % 16))
+}
+
+fn bytes_hex(out: &mut [u8], at: usize, s: &[u8]) -> usize {
+    let mut next = at;
+    let mut i: usize = 0;
+    while i < s.len() {
+        next = byte_hex(out, next, s[i]);
+        i += 1;
+    }
+    next
+}
+
+// The first n bytes of a buffer.
+pub fn buffer(out: &mut [u8], at: usize, s: &[u8], n: usize) -> usize {
+    if n == 0 {
+        return put(out, at, b'-');
+    }
+    if s.len() < n {
+        return at;
+    }
+    bytes_hex(out, at, &s[0..n])
+}
+
+pub fn number_and_buffer(out: &mut [u8], at: usize, n: i32, s: &[u8], length: usize) -> usize {
+    let a = number(out, at, n);
+    let b = put(out, a, b' ');
+    buffer(out, b, s, length)
+}
+
+pub fn written(out: &[u8], at: usize) {
+    if at <= out.len() {
+        io::write_all(STDOUT_FILENO, &out[0..at]);
+    }
+}
+
+// Writes the output where it is nearly full.
+pub fn flushed(out: &[u8], at: usize) -> usize {
+    if at < FULL {
+        return at;
+    }
+    written(out, at);
+    0
+}

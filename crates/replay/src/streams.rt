@@ -1,0 +1,81 @@
+// Kinds 5 and 6: the multistream calls.
+use crate::in_place::as_i32;
+use crate::in_place::most;
+use crate::in_place::zeros;
+use crate::input::Cursor;
+use crate::input::Line;
+use crate::input::NumberAt;
+use crate::input::bytes;
+use crate::input::four;
+use crate::input::length;
+use crate::input::signed;
+use crate::output::number_and_buffer;
+
+fn streams_pad(work: &mut [u8], n: usize, new: usize, size: usize, streams: usize) -> i32 {
+    if work.len() < size {
+        return 0;
+    }
+    multistream::opus_multistream_packet_pad(
+        &mut work[0..size],
+        as_i32(n),
+        as_i32(new),
+        signed(streams),
+    )
+}
+
+fn streams_padded(
+    out: &mut [u8],
+    at: usize,
+    work: &mut [u8],
+    n: usize,
+    new: usize,
+    streams: usize,
+) -> usize {
+    let size = most(n, new);
+    zeros(work, n, size);
+    let r = streams_pad(work, n, new, size, streams);
+    number_and_buffer(out, at, r, work, size)
+}
+
+pub fn streams_pad_case(
+    input: &mut [u8],
+    c: Cursor,
+    work: &mut [u8],
+    out: &mut [u8],
+    at: usize,
+) -> Line {
+    let NumberAt::Is(streams, d) = four(input, c) else {
+        return Line::Malformed;
+    };
+    let NumberAt::Is(new, e) = length(input, d) else {
+        return Line::Malformed;
+    };
+    let NumberAt::Is(n, f) = bytes(input, e, work) else {
+        return Line::Malformed;
+    };
+    Line::Is(f, streams_padded(out, at, work, n, new, streams))
+}
+
+fn streams_unpad(work: &mut [u8], n: usize, streams: usize) -> i32 {
+    if work.len() < n {
+        return 0;
+    }
+    multistream::opus_multistream_packet_unpad(&mut work[0..n], as_i32(n), signed(streams))
+}
+
+pub fn streams_unpad_case(
+    input: &mut [u8],
+    c: Cursor,
+    work: &mut [u8],
+    out: &mut [u8],
+    at: usize,
+) -> Line {
+    let NumberAt::Is(streams, d) = four(input, c) else {
+        return Line::Malformed;
+    };
+    let NumberAt::Is(n, e) = bytes(input, d, work) else {
+        return Line::Malformed;
+    };
+    let r = streams_unpad(work, n, streams);
+    Line::Is(e, number_and_buffer(out, at, r, work, n))
+}
