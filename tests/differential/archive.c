@@ -1,0 +1,111 @@
+// Answers cases of the replay protocol by the proved archive, through include/aveluafi.h, as a caller in C sees it. It adds no bound of its own: every
+// answer, refusals too, is the archive's.
+//
+// What no line shows ends the program, with status 1: two calls that must agree and differ, a record beside a refusal that is not all zeros, a length
+// past the count that is not zero.
+#include "protocol.h"
+#include "aveluafi.h"
+
+static void require(bool holds, const char *what) {
+    if (!holds) {
+        fprintf(stderr, "case %ld: %s\n", case_number, what);
+        exit(1);
+    }
+}
+
+static bool same_packet(const struct aveluafi_packet *a, const struct aveluafi_packet *b) {
+    return a->number == b->number && a->toc == b->toc && memcmp(a->lengths, b->lengths, sizeof a->lengths) == 0 &&
+           a->payload_offset == b->payload_offset && a->packet_offset == b->packet_offset;
+}
+
+static int read_packet(int delim, Bytes p, Packet *packet) {
+    struct aveluafi_packet r = aveluafi_packet_parse_impl(p.at, p.len, delim);
+    if (!delim) {
+        struct aveluafi_packet plain = aveluafi_packet_parse(p.at, p.len);
+        require(same_packet(&r, &plain), "aveluafi_packet_parse and aveluafi_packet_parse_impl differ");
+    }
+    if (r.number < 0) {
+        struct aveluafi_packet zeros = {.number = r.number};
+        require(same_packet(&r, &zeros), "aveluafi_packet_parse_impl: a refusal beside which something is not 0");
+        return r.number;
+    }
+    require(r.number <= AVELUAFI_MOST_FRAMES, "aveluafi_packet_parse_impl: over 48 frames");
+    for (int i = r.number; i < AVELUAFI_MOST_FRAMES; i++) {
+        require(r.lengths[i] == 0, "aveluafi_packet_parse_impl: a length past the count is not 0");
+    }
+    packet->toc = r.toc;
+    packet->first = r.payload_offset;
+    packet->taken = r.packet_offset;
+    for (int i = 0; i < r.number; i++) {
+        packet->lengths[i] = r.lengths[i];
+    }
+    return r.number;
+}
+
+// The three outputs must agree where they are asked the same: the case's range, then all frames, in an ordinary packet without padding.
+static void agree(const struct aveluafi_repacketizer *rp, Bytes store, int32_t begin, int32_t end, int32_t held, int32_t room) {
+    Bytes a = block(room, 0xee), b = block(room, 0xee);
+    int32_t n = aveluafi_repacketizer_out_range_impl(rp, store.at, store.len, begin, end, a.at, a.len, false, false);
+    int32_t m = aveluafi_repacketizer_out_range(rp, store.at, store.len, begin, end, b.at, b.len);
+    require(n == m && memcmp(a.at, b.at, room) == 0, "aveluafi_repacketizer_out_range and aveluafi_repacketizer_out_range_impl differ");
+    memset(a.at, 0xee, room);
+    memset(b.at, 0xee, room);
+    n = aveluafi_repacketizer_out_range(rp, store.at, store.len, 0, held, a.at, a.len);
+    m = aveluafi_repacketizer_out(rp, store.at, store.len, b.at, b.len);
+    require(n == m && memcmp(a.at, b.at, room) == 0, "aveluafi_repacketizer_out and aveluafi_repacketizer_out_range differ");
+    free(a.at);
+    free(b.at);
+}
+
+// Each packet is written over once it is added: the archive promises that it is needed no longer.
+static void collect(Collection *c) {
+    struct aveluafi_repacketizer rp;
+    memset(&rp, 0xcc, sizeof rp);
+    aveluafi_repacketizer_init(&rp);
+    Bytes store = block(AVELUAFI_LEAST_STORE, 0xcc);
+    for (int i = 0; i < c->count; i++) {
+        c->added[i] = aveluafi_repacketizer_cat(&rp, c->packets[i].at, c->packets[i].len, store.at, store.len);
+        memset(c->packets[i].at, 0x99, c->packets[i].len);
+    }
+    c->held = aveluafi_repacketizer_get_nb_frames(&rp);
+    agree(&rp, store, c->begin, c->end, c->held, c->out.len);
+    c->number = aveluafi_repacketizer_out_range_impl(&rp, store.at, store.len, c->begin, c->end, c->out.at, c->out.len, c->delim, c->pad);
+    free(store.at);
+}
+
+static int in_place(int kind, Bytes buffer, int32_t len, int32_t new_len, int32_t streams) {
+    if (kind == PAD) {
+        return aveluafi_packet_pad(buffer.at, buffer.len, len, new_len);
+    }
+    if (kind == UNPAD) {
+        return aveluafi_packet_unpad(buffer.at, buffer.len, len);
+    }
+    if (kind == MULTISTREAM_PAD) {
+        return aveluafi_multistream_packet_pad(buffer.at, buffer.len, len, new_len, streams);
+    }
+    return aveluafi_multistream_packet_unpad(buffer.at, buffer.len, len, streams);
+}
+
+static int write_length(int32_t size, Bytes out) {
+    return aveluafi_encode_size(size, out.at, out.len);
+}
+
+static int read_length(Bytes b, int *size) {
+    struct aveluafi_size r = aveluafi_parse_size(b.at, b.len);
+    require(r.number >= 0 || r.size == 0, "aveluafi_parse_size: a refusal beside which the size is not 0");
+    *size = r.size;
+    return r.number;
+}
+
+static int frame_count(Bytes p) {
+    return aveluafi_packet_get_nb_frames(p.at, p.len);
+}
+
+static int samples(Bytes p, int32_t rate) {
+    return aveluafi_packet_get_samples_per_frame(p.at, p.len, rate);
+}
+
+static void start(int argc, char **argv) {
+    (void)argc;
+    (void)argv;
+}

@@ -1,0 +1,246 @@
+// The replay protocol for an adapter in C: reads the cases, asks the adapter, prints the lines. An adapter includes this file and defines the functions
+// declared here; each answers its call's number, a refusal too.
+#include <stdint.h>
+#include <stdio.h>
+#include <stdlib.h>
+#include <string.h>
+
+enum { READ_PACKET = 1, COLLECT, PAD, UNPAD, MULTISTREAM_PAD, MULTISTREAM_UNPAD, WRITE_LENGTH, READ_LENGTH, FRAME_COUNT, SAMPLES };
+
+typedef struct {
+    unsigned char *at;
+    int32_t len;
+} Bytes;
+
+typedef struct {
+    int toc, first, taken;
+    int lengths[48];
+} Packet;
+
+// The collector's case, and what the adapter fills in. The packets are the adapter's to write over.
+typedef struct {
+    int delim, pad;
+    int32_t begin, end;
+    int count;
+    Bytes packets[255], out;
+    int added[255], held, number;
+} Collection;
+
+// Called once, before the first case.
+static void start(int argc, char **argv);
+// Fills in the packet unless it is refused; the number is how many lengths.
+static int read_packet(int delim, Bytes p, Packet *packet);
+static void collect(Collection *c);
+// PAD, UNPAD or their multistream kin, on the packet of len bytes in the buffer's front.
+static int in_place(int kind, Bytes buffer, int32_t len, int32_t new_len, int32_t streams);
+static int write_length(int32_t size, Bytes out);
+// Fills in the size unless it is refused.
+static int read_length(Bytes b, int *size);
+static int frame_count(Bytes p);
+static int samples(Bytes p, int32_t rate);
+
+// The number of the case being answered, from 1.
+static long case_number;
+
+static Bytes block(int32_t len, int fill) {
+    Bytes b = {malloc(len > 0 ? len : 1), len};
+    if (!b.at) {
+        fprintf(stderr, "out of memory\n");
+        exit(2);
+    }
+    memset(b.at, fill, len);
+    return b;
+}
+
+// ---- input; 0 where the case is cut short or malformed
+
+static int get(void *to, size_t n) {
+    return fread(to, 1, n, stdin) == n;
+}
+
+static int get_i32(int32_t *n) {
+    unsigned char b[4];
+    if (!get(b, 4)) {
+        return 0;
+    }
+    *n = (int32_t)(b[0] | (uint32_t)b[1] << 8 | (uint32_t)b[2] << 16 | (uint32_t)b[3] << 24);
+    return 1;
+}
+
+static int get_room(int32_t *n) {
+    return get_i32(n) && *n >= 0 && *n <= 65536;
+}
+
+static int get_bytes(Bytes *b) {
+    int32_t n;
+    if (!get_room(&n)) {
+        return 0;
+    }
+    *b = block(n, 0);
+    return get(b->at, n);
+}
+
+// ---- output
+
+static void put_hex(Bytes b) {
+    if (b.len == 0) {
+        putchar('-');
+    }
+    for (int32_t i = 0; i < b.len; i++) {
+        putchar("0123456789abcdef"[b.at[i] >> 4]);
+        putchar("0123456789abcdef"[b.at[i] & 15]);
+    }
+}
+
+static void put_number_and(int n, Bytes b) {
+    printf("%d ", n);
+    put_hex(b);
+}
+
+// ---- lines
+
+static void line_read_packet(int delim, Bytes p) {
+    Packet packet;
+    int n = read_packet(delim, p, &packet);
+    printf("%d", n);
+    if (n >= 0) {
+        printf(" %d %d %d", packet.toc, packet.first, packet.taken);
+        for (int i = 0; i < n; i++) {
+            printf(" %d", packet.lengths[i]);
+        }
+    }
+}
+
+static void line_collect(Collection *c) {
+    collect(c);
+    for (int i = 0; i < c->count; i++) {
+        printf("%d ", c->added[i]);
+    }
+    printf("; %d ; %d ; ", c->held, c->number);
+    put_hex(c->out);
+}
+
+static void line_in_place(int kind, Bytes packet, int32_t new_len, int32_t streams) {
+    Bytes buffer = block(new_len > packet.len ? new_len : packet.len, 0);
+    memcpy(buffer.at, packet.at, packet.len);
+    put_number_and(in_place(kind, buffer, packet.len, new_len, streams), buffer);
+    free(buffer.at);
+}
+
+static void line_write_length(int32_t size, int room) {
+    Bytes out = block(room, 0xee);
+    put_number_and(write_length(size, out), out);
+    free(out.at);
+}
+
+static void line_read_length(Bytes b) {
+    int size, n = read_length(b, &size);
+    printf("%d", n);
+    if (n >= 0) {
+        printf(" %d", size);
+    }
+}
+
+static int answer(int kind) {
+    unsigned char delim, pad, count, room8;
+    int32_t room, streams, size, rate;
+    Bytes p;
+    switch (kind) {
+    case READ_PACKET:
+        if (!get(&delim, 1) || !get_bytes(&p)) {
+            return 0;
+        }
+        line_read_packet(delim != 0, p);
+        break;
+    case COLLECT: {
+        Collection c;
+        if (!get(&delim, 1) || !get(&pad, 1) || !get_i32(&c.begin) || !get_i32(&c.end) || !get_room(&room) || !get(&count, 1)) {
+            return 0;
+        }
+        for (int i = 0; i < count; i++) {
+            if (!get_bytes(&c.packets[i])) {
+                return 0;
+            }
+        }
+        c.delim = delim != 0;
+        c.pad = pad != 0;
+        c.count = count;
+        c.out = block(room, 0xee);
+        line_collect(&c);
+        for (int i = 0; i < count; i++) {
+            free(c.packets[i].at);
+        }
+        free(c.out.at);
+        return 1;
+    }
+    case PAD:
+        if (!get_room(&room) || !get_bytes(&p)) {
+            return 0;
+        }
+        line_in_place(kind, p, room, 1);
+        break;
+    case UNPAD:
+        if (!get_bytes(&p)) {
+            return 0;
+        }
+        line_in_place(kind, p, 0, 1);
+        break;
+    case MULTISTREAM_PAD:
+        if (!get_i32(&streams) || !get_room(&room) || !get_bytes(&p)) {
+            return 0;
+        }
+        line_in_place(kind, p, room, streams);
+        break;
+    case MULTISTREAM_UNPAD:
+        if (!get_i32(&streams) || !get_bytes(&p)) {
+            return 0;
+        }
+        line_in_place(kind, p, 0, streams);
+        break;
+    case WRITE_LENGTH:
+        if (!get_i32(&size) || !get(&room8, 1)) {
+            return 0;
+        }
+        line_write_length(size, room8);
+        return 1;
+    case READ_LENGTH:
+        if (!get_bytes(&p)) {
+            return 0;
+        }
+        line_read_length(p);
+        break;
+    case FRAME_COUNT:
+        if (!get_bytes(&p)) {
+            return 0;
+        }
+        printf("%d", frame_count(p));
+        break;
+    case SAMPLES:
+        if (!get_i32(&rate) || !get_bytes(&p)) {
+            return 0;
+        }
+        printf("%d", samples(p, rate));
+        break;
+    default:
+        return 0;
+    }
+    free(p.at);
+    return 1;
+}
+
+int main(int argc, char **argv) {
+    start(argc, argv);
+    static char in[1 << 20], out[1 << 20];
+    setvbuf(stdin, in, _IOFBF, sizeof in);
+    setvbuf(stdout, out, _IOFBF, sizeof out);
+    unsigned char kind;
+    while (get(&kind, 1)) {
+        case_number++;
+        if (!answer(kind)) {
+            puts("malformed");
+            break;
+        }
+        putchar('\n');
+    }
+    return 0;
+}
