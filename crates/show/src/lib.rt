@@ -1,4 +1,10 @@
-// Text, numbers and bytes written to standard output, for the programs.
+// Text, numbers and bytes for the programs: written to standard output, and put into a buffer by functions that are proved to the byte.
+ghost use mathlib.Core.Path.{_≡_};
+ghost use Prim.Native.Nat.{_+_, _≤_};
+ghost use lib.IntN.{natAbs};
+ghost use lib.ListN.{length};
+ghost use lib.Seq.{sets};
+ghost use Rattle.show.specs.Text.{decimal as Text·decimal, integer};
 use libc::STDOUT_FILENO;
 use opus_defines::Count;
 
@@ -44,4 +50,46 @@ pub fn front(s: &[u8], n: usize) {
 
 pub fn bytes(s: &[u8]) {
     front(s, s.len());
+}
+
+// ---- put into a buffer at a place; the answer is the place behind
+
+pub fn put_text(out: &mut [u8], at: usize, s: &[u8]) -> usize
+    requires { ⌜ at + length (now s) ≤ length (now out) ⌝ }
+    ensures bytes { λ _. ⌜ now (out .exit) ≡ sets (now (out .entry)) at (now (s .entry)) ⌝ }
+    ensures next { λ r. ⌜ r ≡ at + length (now (s .entry)) ⌝ }
+{
+    blocks::copy_into(out, at, s, 0, s.len());
+    at + s.len()
+}
+
+pub fn put_decimal(out: &mut [u8], at: usize, n: usize) -> usize
+    requires { ⌜ at + length (Text·decimal n) ≤ length (now out) ⌝ }
+    ensures bytes { λ _. ⌜ now (out .exit) ≡ sets (now (out .entry)) at (Text·decimal n) ⌝ }
+    ensures next { λ r. ⌜ r ≡ at + length (Text·decimal n) ⌝ }
+{
+    let mut digits = [0u8; 20];
+    let k = io::decimal(n as u64, &mut digits);
+    put_text(out, at, &digits[..k])
+}
+
+fn magnitude(x: i32) -> usize
+    ensures { λ r. ⌜ r ≡ natAbs x ⌝ }
+{
+    if x < 0 {
+        return (-1 - x) as usize + 1;
+    }
+    x as usize
+}
+
+pub fn put_number(out: &mut [u8], at: usize, x: i32) -> usize
+    requires { ⌜ at + length (integer x) ≤ length (now out) ⌝ }
+    ensures bytes { λ _. ⌜ now (out .exit) ≡ sets (now (out .entry)) at (integer x) ⌝ }
+    ensures next { λ r. ⌜ r ≡ at + length (integer x) ⌝ }
+{
+    if x < 0 {
+        let next = put_text(out, at, b"-");
+        return put_decimal(out, next, magnitude(x));
+    }
+    put_decimal(out, at, magnitude(x))
 }

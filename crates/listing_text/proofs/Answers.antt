@@ -1,0 +1,107 @@
+-- Which text the listing is, by the reader's answer.
+--     Read, listing-read                       an accepted packet
+--     refused-room, listing-refused            a refused one
+--     answers                                  the bytes and their count, for a text that is the listing
+-- Assumes nothing.
+use Prim.Native.Nat.{ℕ, _+_, _*_, _≤_, _<_}
+use native.Mathlib.Omega.{arith}
+use mathlib.Core.Path.{_≡_, refl, sym}
+use mathlib.Core.List.{List}
+use mathlib.Core.Bool.{false}
+use lib.Dec.{ltb}
+use lib.IntN.{ℤ, pos}
+use lib.ListN.{length}
+use lib.Seq.{sets, length-sets, length-take-le}
+use mir.Syntax.{w32}
+use mir.Val.{toZ, ofZ}
+use borrow.Author.Tests.{le-ltb}
+use Rattle.io.specs.Counts.{Counts}
+use Rattle.laws.specs.Bytes.{Bytes}
+use Rattle.laws.proofs.Never.{never, by-test}
+use Rattle.opus_defines.specs.Numbers.{refusalNumber, verdictNumber}
+use Rattle.opus_defines.specs.declared.Refusal.{Refusal}
+use Rattle.opus_defines.specs.declared.Refusal.the-variants.{BadArg, BufferTooSmall, InternalError, InvalidPacket, InvalidState}
+use Rattle.opus_defines.specs.declared.Verdict.the-variants.{Accepted, Refused}
+use Rattle.opus_size.specs.Size.{mostBytes}
+use Rattle.opus_toc.specs.Toc.{upperSix, configuration, samples}
+use Rattle.opus.specs.Frames.{total, longest}
+use Rattle.opus.specs.Reading.{Reading, refused, accepted, read}
+use Rattle.opus.specs.Answers.{packetOf, parsed}
+use Rattle.opus.specs.declared.Packet.{Packet}
+use Rattle.opus.proofs.Facts.{facts}
+use Rattle.opus.proofs.Parsed.{lengthsOf, parsed-accepted}
+use Rattle.opus_header.specs.Sums.{sumsOf}
+use Rattle.opus_header.specs.Forms.{compactBytes}
+use Rattle.opus_header.proofs.Forms.{compact-front, sums-few}
+use Rattle.packet_pad.proofs.Framed.{compact-needs}
+use Rattle.listing_text.specs.Listing.{time, packetText, refusal, listed, listing}
+use Rattle.listing_text.proofs.Frames.{busy-time}
+use Rattle.listing_text.proofs.Room.{packet-most, refusal-most}
+
+counts : (l t : List ℕ) → length t ≤ length l → Counts (length t) (sets l 0 t)
+counts l t h =
+    let within : length t ≤ length (sets l 0 t) = simp length-sets h in
+    (within, sym (length-take-le (length t) (sets l 0 t) within))
+
+pub answers : (l p t : List ℕ) {d : List ℕ} {n : ℕ} → listing p ≡ t → length t ≤ length l → d ≡ sets l 0 t → n ≡ length t → (d ≡ sets l 0 (listing p)) × ((n ≡ length (listing p)) × Counts n d)
+answers l p t e h b n = rw e (b, (n, rw (b, n) (counts l t h)))
+
+-- ---- a packet p that was read, with the reader's answer r
+-- the bytes of its compact packet, as they are counted
+abbrev pub small : Packet → ℕ
+small r = compactBytes (length (lengthsOf r)) (sumsOf (lengthsOf r)) false
+
+pub record Read (p : List ℕ) (r : Packet) : Type 0 where
+  pub inside : r .count ≤ length (r .lengths)
+  pub some : (1 ≤ length (lengthsOf r)) × (length (lengthsOf r) ≤ 48) × (longest (lengthsOf r) ≤ mostBytes)
+  pub places : r .first + total (lengthsOf r) ≤ 65535
+  pub text : listing p ≡ packetText (r .toc) (lengthsOf r) (r .first) (r .taken) (small r)
+  pub room : length (packetText (r .toc) (lengthsOf r) (r .first) (r .taken) (small r)) ≤ 2048
+
+small-most : (ns : List ℕ) → length ns ≤ 48 → longest ns ≤ mostBytes → compactBytes (length ns) (sumsOf ns) false < 100000
+small-most ns h k = omega (arith, compact-front (length ns), sums-few ns (sumsOf ns) refl h k)
+
+time-most : (toc : ℕ) (ns : List ℕ) → length ns * samples 48000 (configuration toc) ≤ 5760 → time toc ns < 100000
+unfolding time
+time-most toc ns h = omega (arith, busy-time ns (length ns) (samples 48000 (configuration toc)) (omega arith))
+
+pub listing-read : (p : List ℕ) (r : Packet) → Bytes p → r ≡ parsed false p → r .verdict ≡ Accepted → Read p r
+unfolding listing listed
+listing-read p r bytes e v =
+    let d = parsed-accepted false p r e v in
+    let ns = lengthsOf r in
+    let f = facts false p (r .toc) ns (r .first) (r .taken) bytes (d .means) in
+    let within : r .first + total ns ≤ length p = omega (arith, f .block, f .within) in
+    record {
+      inside = d .inside;
+      some = (f .some, f .few, f .small);
+      places = omega (arith, d .short);
+      text = rw (le-ltb 65535 (length p) (d .short), d .means, compact-needs false (upperSix (r .toc)) ns p (r .first) within (sumsOf ns) refl (small r) refl);
+      room = packet-most (r .toc) ns (r .first) (r .taken) (small r) (omega (arith, f .byte)) (f .few) (time-most (r .toc) ns (f .short)) (omega (arith, d .short)) (omega (arith, f .within, d .short)) (small-most ns (f .few) (f .small));
+    }
+
+-- ---- a packet that was refused
+-- a call is passed the bits of the number
+refusal-passed : (e : Refusal) → toZ w32 (ofZ w32 (refusalNumber e)) ≡ refusalNumber e
+refusal-passed BadArg = refl
+refusal-passed BufferTooSmall = refl
+refusal-passed InternalError = refl
+refusal-passed InvalidPacket = refl
+refusal-passed InvalidState = refl
+
+module _ (r : Packet) (c : Refusal) (v : r .verdict ≡ Refused c) (x : ℤ) (n : x ≡ verdictNumber (pos 0) (r .verdict)) where
+  number-is : toZ w32 (ofZ w32 x) ≡ refusalNumber c
+  number-is = rw (n, v) (refusal-passed c)
+
+  pub refused-room : (l : List ℕ) → 2048 ≤ length l → length (refusal (toZ w32 (ofZ w32 x))) ≤ length l
+  refused-room l h = rw number-is (omega (arith, refusal-most c))
+
+  pub listing-refused : (p : List ℕ) → r ≡ parsed false p → listing p ≡ refusal (toZ w32 (ofZ w32 x))
+  unfolding parsed listing listed
+  listing-refused p e =
+      rw number-is
+      (by-test (ltb 65535 (length p)) (λ t. rw t (let y = rw t at e in cc)) (λ t. rw t (go (rw t at e) (read false p) refl)))
+    where
+      go : r ≡ packetOf (read false p) → (y : Reading) → read false p ≡ y → listed p (read false p) ≡ refusal (refusalNumber c)
+      go f (refused rule) q = rw q (let y = rw q at f in cc)
+      go f (accepted toc ns first taken) q = never (let y = rw q at f in cc)

@@ -1,0 +1,5 @@
+pub mod Texts
+pub mod Frames
+pub mod Room
+pub mod Answers
+pub mod Examples

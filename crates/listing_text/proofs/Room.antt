@@ -1,0 +1,60 @@
+-- How long the texts are: a number below 100,000 takes at most five bytes, so that a frame's line takes at most 34 and a listing at most 2,048.
+-- Assumes nothing.
+use Prim.Native.Nat.{ℕ, suc, _+_, _*_, _≤_, _<_}
+use native.Mathlib.Omega.{arith}
+use mathlib.Core.List.{List, [], _∷_, _++_}
+use lib.ListN.{length, length-append}
+use Rattle.opus_defines.specs.Numbers.{refusalNumber}
+use Rattle.opus_defines.specs.declared.Refusal.{Refusal}
+use Rattle.opus_defines.specs.declared.Refusal.the-variants.{BadArg, BufferTooSmall, InternalError, InvalidPacket, InvalidState}
+use Rattle.opus.specs.Frames.{total}
+use Rattle.show.specs.Text.{decimal, integer}
+use Rattle.show.proofs.Digits.{decimal-most}
+use Rattle.listing_text.specs.Labels.{tocLabel, countLabel, timeLabel, payloadLabel, packetLabel, compactLabel, frameLabel, atLabel, lengthLabel, refusedLabel}
+use Rattle.listing_text.specs.Listing.{line, time, frameLine, frameLines, times, sizes, packetText, refusal}
+
+digits-most : (n : ℕ) → n < 100000 → length (decimal n) ≤ 5
+digits-most n h = decimal-most n 4 h
+
+line-most : (label : List ℕ) (n : ℕ) → n < 100000 → length (line label n) ≤ length label + 6
+unfolding line
+line-most label n h = omega (arith, length-append label (decimal n ++ (10 ∷ [])), length-append (decimal n) (10 ∷ []), digits-most n h)
+
+frame-most : (i place n : ℕ) → i < 100000 → place < 100000 → n < 100000 → length (frameLine i place n) ≤ 34
+unfolding frameLine frameLabel atLabel lengthLabel
+frame-most i place n h k m =
+    simp length-append (omega (arith, digits-most i h, digits-most place k, line-most lengthLabel n m))
+
+lines-most : (i at : ℕ) (ns : List ℕ) → i + length ns ≤ 100000 → at + total ns < 100000 → length (frameLines i at ns) ≤ 34 * length ns
+unfolding frameLines
+lines-most i at [] h k = omega arith
+lines-most i at (n ∷ ns) h k =
+    omega (arith, length-append (frameLine i at n) (frameLines (suc i) (at + n) ns), frame-most i at n (omega arith) (omega arith) (omega arith), lines-most (suc i) (at + n) ns (omega arith) (omega arith))
+
+times-most : (toc : ℕ) (ns : List ℕ) → toc < 100000 → length ns ≤ 48 → time toc ns < 100000 → length (times toc ns) ≤ 33
+unfolding times tocLabel countLabel timeLabel
+times-most toc ns h k m =
+    simp length-append (omega (arith, line-most tocLabel toc h, line-most countLabel (length ns) (omega arith), line-most timeLabel (time toc ns) m))
+
+sizes-most : (first taken small : ℕ) → first < 100000 → taken < 100000 → small < 100000 → length (sizes first taken small) ≤ 41
+unfolding sizes payloadLabel packetLabel compactLabel
+sizes-most first taken small h k m =
+    simp length-append (omega (arith, line-most payloadLabel first h, line-most packetLabel taken k, line-most compactLabel small m))
+
+pub packet-most : (toc : ℕ) (ns : List ℕ) (first taken small : ℕ) → toc < 100000 → length ns ≤ 48 → time toc ns < 100000 → first + total ns < 100000 → taken < 100000 → small < 100000 → length (packetText toc ns first taken small) ≤ 2048
+unfolding packetText
+packet-most toc ns first taken small h k m f t s =
+    simp length-append (omega (arith, times-most toc ns h k m, sizes-most first taken small (omega arith) t s, lines-most 0 first ns (omega arith) f))
+
+-- a refusal's number has one digit
+negative-most : (n : ℕ) → n < 100000 → length (refusedLabel ++ (45 ∷ decimal n ++ (10 ∷ []))) ≤ 2048
+unfolding refusedLabel
+negative-most n h = simp length-append (omega (arith, digits-most n h))
+
+pub refusal-most : (e : Refusal) → length (refusal (refusalNumber e)) ≤ 2048
+unfolding refusal integer
+refusal-most BadArg = negative-most 1 (omega arith)
+refusal-most BufferTooSmall = negative-most 2 (omega arith)
+refusal-most InternalError = negative-most 3 (omega arith)
+refusal-most InvalidPacket = negative-most 4 (omega arith)
+refusal-most InvalidState = negative-most 6 (omega arith)

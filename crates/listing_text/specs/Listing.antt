@@ -1,0 +1,67 @@
+-- The text that the listing program writes for a packet (document 01, 'The listing program'). 10 is the end of a line.
+use Prim.Native.Nat.{ℕ, suc, _+_, _*_}
+use mathlib.Core.List.{List, [], _∷_, _++_}
+use mathlib.Core.Bool.{false, cond}
+use lib.Dec.{ltb, eqb}
+use lib.IntN.{ℤ}
+use lib.ListN.{length, drop}
+use Rattle.opus_defines.specs.Numbers.{refusalNumber}
+use Rattle.opus_defines.specs.declared.Refusal.{Refusal}
+use Rattle.opus_defines.specs.declared.Refusal.the-variants.{BadArg, InvalidPacket}
+use Rattle.opus_toc.specs.Toc.{upperSix, configuration, samples}
+use Rattle.opus.specs.Frames.{cut}
+use Rattle.opus.specs.Reading.{Reading, refused, accepted, read}
+use Rattle.opus_header.specs.Compact.{compact}
+use Rattle.show.specs.Text.{decimal, integer}
+use Rattle.listing_text.specs.Labels.{tocLabel, countLabel, timeLabel, payloadLabel, packetLabel, compactLabel, frameLabel, atLabel, lengthLabel, refusedLabel}
+
+-- a label and a number
+unfoldable pub line : List ℕ → ℕ → List ℕ
+line label n = label ++ (decimal n ++ (10 ∷ []))
+
+-- ---- frames that hold bytes
+-- how many of the lengths are not 0
+unfoldable pub busy : List ℕ → ℕ
+busy [] = 0
+busy (n ∷ ns) = cond (eqb n 0) 0 1 + busy ns
+
+-- samples at 48 kHz of the frames that hold bytes; an empty frame adds none
+unfoldable pub time : ℕ → List ℕ → ℕ
+time toc ns = busy ns * samples 48000 (configuration toc)
+
+-- ---- a packet that was read
+-- frame i stands at a place and has n bytes
+unfoldable pub frameLine : ℕ → ℕ → ℕ → List ℕ
+frameLine i at n = frameLabel ++ (decimal i ++ (atLabel ++ (decimal at ++ line lengthLabel n)))
+
+-- frames of these lengths from frame i on, which stands at a place; each stands right behind the one before
+unfoldable pub frameLines : ℕ → ℕ → List ℕ → List ℕ
+frameLines i at [] = []
+frameLines i at (n ∷ ns) = frameLine i at n ++ frameLines (suc i) (at + n) ns
+
+-- the TOC byte, how many frames, and how long they last
+unfoldable pub times : ℕ → List ℕ → List ℕ
+times toc ns = line tocLabel toc ++ (line countLabel (length ns) ++ line timeLabel (time toc ns))
+
+-- the first frame's place, the packet's bytes, and those of the compact packet
+unfoldable pub sizes : ℕ → ℕ → ℕ → List ℕ
+sizes first taken small = line payloadLabel first ++ (line packetLabel taken ++ line compactLabel small)
+
+unfoldable pub packetText : ℕ → List ℕ → ℕ → ℕ → ℕ → List ℕ
+packetText toc ns first taken small = times toc ns ++ (sizes first taken small ++ frameLines 0 first ns)
+
+-- ---- a packet that was refused
+unfoldable pub refusal : ℤ → List ℕ
+refusal number = refusedLabel ++ (integer number ++ (10 ∷ []))
+
+abbrev pub refusedLine : Refusal → List ℕ
+refusedLine e = refusal (refusalNumber e)
+
+-- ---- the listing
+unfoldable pub listed : List ℕ → Reading → List ℕ
+listed p (refused rule) = refusedLine InvalidPacket
+listed p (accepted toc ns first taken) = packetText toc ns first taken (length (compact false (upperSix toc) (cut ns (drop first p))))
+
+-- above 65,535 bytes nothing is read
+unfoldable pub listing : List ℕ → List ℕ
+listing p = cond (ltb 65535 (length p)) (refusedLine BadArg) (listed p (read false p))

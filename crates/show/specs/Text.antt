@@ -1,0 +1,21 @@
+-- Numbers as text, in ASCII.
+use Prim.Native.Nat.{ℕ, zero, suc, _/_}
+use mathlib.Core.List.{List, _∷_}
+use mathlib.Core.Bool.{cond}
+use lib.Dec.{ltb}
+use lib.IntN.{ℤ, pos, negsuc}
+use Rattle.io.specs.Digits.{digits}
+
+-- how many digits n has, if they are no more than most + 1
+unfoldable pub places : ℕ → ℕ → ℕ
+places zero n = 1
+places (suc most) n = cond (ltb n 10) 1 (suc (places most (n / 10)))
+
+-- a number without leading zeros; no number has more digits than its value and one
+unfoldable pub decimal : ℕ → List ℕ
+decimal n = digits 10 (places n n) n
+
+-- a signed number; 45 is the minus sign
+unfoldable pub integer : ℤ → List ℕ
+integer (pos n) = decimal n
+integer (negsuc n) = 45 ∷ decimal (suc n)
