@@ -8,9 +8,11 @@ use lib.ListN.{length, replicate}
 use Rattle.opus_defines.specs.Numbers.{verdictNumber}
 use Rattle.opus_defines.specs.declared.Refusal.{Refusal}
 use Rattle.opus_defines.specs.declared.Refusal.the-variants.{BadArg, InvalidPacket}
+use Rattle.opus_defines.specs.declared.Verdict.{Verdict}
 use Rattle.opus_defines.specs.declared.Verdict.the-variants.{Accepted, Refused}
 use Rattle.opus.specs.Reading.{Reading, refused, accepted, read}
 use Rattle.opus.specs.declared.Packet.{Packet}
+use Rattle.opus.specs.declared.PacketHead.{PacketHead}
 
 -- 48 lengths: those given, and zeros
 abbrev pub padded48 : List ℕ → List ℕ
@@ -32,3 +34,13 @@ parsed sd p = cond (ltb 65535 (length p)) (noPacket BadArg) (packetOf (read sd p
 -- the number that the crate returns: the count, or the refusal's number
 abbrev pub packetNumber : Packet → ℤ
 packetNumber r = verdictNumber (pos (r .count)) (r .verdict)
+
+-- the lengths of an answer whose array is lent: beside a refusal they are zeros, whatever the array holds
+abbrev pub keptLengths : Verdict → List ℕ → List ℕ
+keptLengths Accepted l = l
+keptLengths (Refused e) l = padded48 []
+
+-- `read_into`: the answer is what it says and the lengths that it has put into the lent array
+abbrev pub answerOf : PacketHead → List ℕ → Packet
+answerOf h l =
+    record { verdict = h .verdict; toc = h .toc; count = h .count; lengths = keptLengths (h .verdict) l; first = h .first; taken = h .taken }

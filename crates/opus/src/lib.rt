@@ -1,11 +1,12 @@
 // The packet reader in both delimitings (RFC 6716, sections 3.2 to 3.4 and appendix B): `opus_packet_parse_impl` and
 // `opus_packet_parse` of opus.rs. A packet's frames lie one behind another, so the answer has their lengths and the first one's place.
 ghost use mathlib.Core.Path.{_≡_};
+ghost use mathlib.Core.List.{[]};
 ghost use mathlib.Core.Bool.{true, false};
 ghost use Prim.Native.Nat.{_+_, _*_, _-_, _/_, _%_, _^_, _<_, _≤_};
 ghost use lib.ListN.{length, getD, replicate, drop};
 ghost use Rattle.opus.specs.Reading.{R6, R7, readFields, behindFields, equal, readChain, readPadding, frames3, behindPadding, read3, read};
-ghost use Rattle.opus.specs.Answers.{padded48, noPacket, packetOf, parsed};
+ghost use Rattle.opus.specs.Answers.{padded48, noPacket, packetOf, parsed, answerOf};
 ghost use Rattle.opus.specs.Parts.{sizesAt, noFrames, framesAt, paddingAt, packetAt};
 use opus_defines::Refusal;
 use opus_defines::Verdict;
@@ -21,6 +22,15 @@ pub struct Packet {
     pub count: usize,
     pub lengths: [u16; 48],
     // The place of the first frame, and the bytes taken with padding.
+    pub first: usize,
+    pub taken: usize,
+}
+
+// What the reader says beside the lengths, which are lent; zeros beside a refusal.
+pub struct PacketHead {
+    pub verdict: Verdict,
+    pub toc: u8,
+    pub count: usize,
     pub first: usize,
     pub taken: usize,
 }
@@ -391,4 +401,23 @@ pub fn opus_packet_parse(data: &[u8]) -> Packet
     ensures { λ r. ⌜ r ≡ parsed false (now («data» .entry)) ⌝ }
 {
     opus_packet_parse_impl(data, false)
+}
+
+// Reads the packet at the front of `data`, and puts the lengths of its frames into `lengths`, which come as zeros. Beside a refusal nothing is
+// said of them.
+pub fn read_into(data: &[u8], self_delimited: bool, lengths: &mut [u16; 48]) -> PacketHead
+    requires { ⌜ now lengths ≡ padded48 [] ⌝ }
+    ensures { λ r. ⌜ answerOf r (now (lengths .exit)) ≡ parsed «self_delimited» (now («data» .entry)) ⌝ }
+{
+    let p = opus_packet_parse_impl(data, self_delimited);
+    let ns = p.lengths;
+    *lengths = ns;
+    let v = p.verdict;
+    PacketHead {
+        verdict: v,
+        toc: p.toc,
+        count: p.count,
+        first: p.first,
+        taken: p.taken,
+    }
 }

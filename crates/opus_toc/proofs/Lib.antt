@@ -1,3 +1,4 @@
 pub mod Rates
 pub mod Samples
 pub mod Answers
+pub mod Keys

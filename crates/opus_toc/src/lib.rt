@@ -24,11 +24,26 @@ fn place(toc: u8) -> usize
     toc as usize
 }
 
-pub fn samples_48k(toc: u8) -> Samples48k
+// By the table of document 01. A constant array is put on the stack at each use, so that this is for the public call alone.
+fn samples_in_table(toc: u8) -> Samples48k
     ensures { λ r. ⌜ r .0 ≡ samples 48000 (configuration toc) ⌝ }
 {
     let i = place(toc);
     Samples48k(table::SAMPLES_48K[i])
+}
+
+// The same by the configuration, for what is done with every packet.
+pub fn samples_48k(toc: u8) -> Samples48k
+    ensures { λ r. ⌜ r .0 ≡ samples 48000 (configuration toc) ⌝ }
+{
+    match toc / 8 {
+        16 | 20 | 24 | 28 => Samples48k(120),
+        17 | 21 | 25 | 29 => Samples48k(240),
+        0 | 4 | 8 | 12 | 14 | 18 | 22 | 26 | 30 => Samples48k(480),
+        2 | 6 | 10 => Samples48k(1920),
+        3 | 7 | 11 => Samples48k(2880),
+        _ => Samples48k(960),
+    }
 }
 
 pub fn samples_8k(toc: u8) -> Samples8k
@@ -81,7 +96,7 @@ fn samples_per_frame(data: &[u8], rate: usize) -> Answer
     if d == 0 {
         return Answer::Refused(Refusal::BadArg);
     }
-    let each = samples_48k(data[0]);
+    let each = samples_in_table(data[0]);
     Answer::Number(each.0 / d)
 }
 
