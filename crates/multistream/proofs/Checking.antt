@@ -1,6 +1,5 @@
 -- A stream that is read to see whether its compact form has room, and the loop over all streams.
---     check-whole                                    what is known of an accepted stream
---     check-small, check-taken, check-refused        what one stream's check answers, by the tests of the code
+--     check-taken, check-refused                     what one stream's check answers, by the verdict
 --     ahead-verdict                                  what is in front does not change the verdict
 --     Checking                                       what the loop keeps: the verdict on the streams from here on is that on all
 --     checking-start, checking-more, checking-end    its start, a turn, and the last stream
@@ -32,6 +31,7 @@ use Rattle.opus.specs.declared.Packet.{Packet}
 use Rattle.opus_header.specs.Header.{compactHeader}
 use Rattle.opus_header.specs.Compact.{compact}
 use Rattle.opus_header.specs.Sums.{sumsOf}
+use Rattle.opus_header.specs.Forms.{compactBytes}
 use Rattle.opus_header.proofs.Forms.{compact-bytes}
 use Rattle.opus.proofs.Parsed.{lengthsOf, parsed-accepted, parsed-refused}
 use Rattle.packet_pad.proofs.Framed.{Lies, lies, compact-needs}
@@ -47,24 +47,18 @@ module _ (sd : Bool) (s : List ℕ) (r : Packet) (p : r ≡ parsed sd s) where
   check-refused e v short = let q = parsed-refused sd s r p e v short in rw (q .1 .1, q .0)
 
   module _ (v : r .verdict ≡ Accepted) (bytes : Bytes s) where
-    pub check-whole : Lies sd s (length s) r
-    check-whole = lies sd s (length s) r bytes (omega arith) (rw (take-length s) p) v
+    whole : Lies sd s (length s) r
+    whole = lies sd s (length s) r bytes (omega arith) (rw (take-length s) p) v
 
-    means : read sd s ≡ accepted (r .toc) (lengthsOf r) (r .first) (r .taken)
-    means = parsed-accepted sd s r p v .means
+    -- the compact header is no longer than the one that was read
+    room : length (compact sd (upperSix (r .toc)) (cut (lengthsOf r) (drop (r .first) s))) ≤ length s
+    room =
+        let ns = lengthsOf r in
+        let size = compact-needs sd (upperSix (r .toc)) ns s (r .first) (whole .within) (sumsOf ns) refl (compactBytes (length ns) (sumsOf ns) sd) refl in
+        omega (arith, size, compact-bytes sd (upperSix (r .toc)) ns (sumsOf ns) refl, whole .short, whole .within)
 
-    -- n is counted for any six bits
-    module _ (n : ℕ) (e : n ≡ length (compactHeader sd 0 (lengthsOf r)) + total (lengthsOf r)) where
-      size : length (compact sd (upperSix (r .toc)) (cut (lengthsOf r) (drop (r .first) s))) ≡ n
-      size =
-          let ns = lengthsOf r in
-          compact-needs sd (upperSix (r .toc)) ns s (r .first) (check-whole .within) (sumsOf ns) refl n (e ∙ sym (compact-bytes sd 0 ns (sumsOf ns) refl))
-
-      pub check-small : length s < n → Refused BufferTooSmall ≡ checkedBy s sd (read sd s)
-      check-small h = rw (means, size, lt-ltb (length s) n h)
-
-      pub check-taken : n ≤ length s → Taken (r .taken) ≡ checkedBy s sd (read sd s)
-      check-taken h = rw (means, size, le-ltb (length s) n h)
+    pub check-taken : Taken (r .taken) ≡ checkedBy s sd (read sd s)
+    check-taken = rw (parsed-accepted sd s r p v .means, le-ltb (length s) _ room)
 
 -- ---- one stream and those behind it
 pub ahead-verdict : (q : List ℕ) (x : Repacked) → verdictOf (ahead q x) ≡ verdictOf x

@@ -1,5 +1,6 @@
 -- A stream that is rewritten in compact form further to the front, and the loop over all streams.
---     lying, taken-fits, rewrite-fits, rewritten    one stream: how it lies, and what its rewrite needs and leaves
+--     lent-read                                     one stream: the reader's answer, with its lengths in a lent array
+--     lying, taken-fits, rewrite-fits, rewritten    how it lies, and what its rewrite needs and leaves
 --     Repacking                                     what the loop keeps: the streams so far stand in compact form at the front, and the
 --                                                   unread ones are as they were
 --     same-size, in-places                          the buffer and the places at any turn
@@ -28,8 +29,10 @@ use Rattle.opus_defines.specs.declared.Verdict.the-variants.{Accepted}
 use Rattle.opus_toc.specs.Toc.{upperSix}
 use Rattle.opus.specs.Frames.{cut, total}
 use Rattle.opus.specs.Reading.{Reading, refused, accepted, read}
-use Rattle.opus.specs.Answers.{packetOf, parsed}
+use Rattle.opus.specs.Answers.{packetOf, parsed, answerOf}
 use Rattle.opus.specs.declared.Packet.{Packet}
+use Rattle.opus.specs.declared.PacketHead.{PacketHead}
+use Rattle.opus.proofs.Lent.{packetWith, lent-accepted}
 use Rattle.opus.proofs.Frames.{lengths-cut, joined-cut}
 use Rattle.opus_header.specs.Compact.{compact}
 use Rattle.opus_header.specs.Forms.{compactForm, missing, formPacket}
@@ -52,6 +55,12 @@ accepted-verdict sd p r e h ok = go (read sd p) (rw (le-ltb 65535 (length p) h) 
     go : (x : Reading) → r ≡ packetOf x → isAccepted x ≡ true → r .verdict ≡ Accepted
     go (refused rule) e a = never (cc)
     go (accepted toc ns first taken) e a = ap (λ (q : Packet). q .verdict) e
+
+-- the reader's answer, with its lengths in a lent array
+pub lent-read : (sd : Bool) (s : List ℕ) (to from len : ℕ) → (to ≤ from) × (from ≤ len) × (len ≤ length s) × (len ≤ 65535) → isAccepted (read sd (stream s from len)) ≡ true → (h : PacketHead) (l : List ℕ) → answerOf h l ≡ parsed sd (stream s from len) → packetWith h l ≡ parsed sd (stream s from len)
+lent-read sd s to from len places ok h l e =
+    let long = length-take-le (len - from) (drop from s) (omega (arith, length-drop from s)) in
+    lent-accepted sd (stream s from len) h l e (accepted-verdict sd (stream s from len) (answerOf h l) e (omega (arith, long)) ok)
 
 -- the stream at `from`, of what ends at `len`, goes to `to`; r is the reader's answer
 module _ (sd : Bool) (s : List ℕ) (to from len : ℕ) (places : (to ≤ from) × (from ≤ len) × (len ≤ length s) × (len ≤ 65535)) (ok : isAccepted (read sd (stream s from len)) ≡ true) (bytes : Bytes s) (r : Packet) (p : r ≡ parsed sd (stream s from len)) where

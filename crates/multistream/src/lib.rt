@@ -2,15 +2,12 @@
 // rewritten stream never reaches an unread byte, since none is longer than it was.
 ghost use mathlib.Core.Path.{_≡_};
 ghost use mathlib.Core.Bool.{true};
-ghost use Prim.Native.Nat.{_+_, _≤_};
+ghost use Prim.Native.Nat.{_≤_};
 ghost use lib.ListN.{length, take};
 ghost use lib.Seq.{sets};
 ghost use Rattle.opus_defines.specs.Numbers.{numberOf};
 ghost use Rattle.opus_defines.specs.declared.Verdict.the-variants.{Accepted};
-ghost use Rattle.opus_size.specs.Size.{mostBytes};
-ghost use Rattle.opus.specs.Frames.{total, longest};
 ghost use Rattle.opus.specs.Reading.{read};
-ghost use Rattle.opus_header.specs.Header.{compactHeader};
 ghost use Rattle.multistream.specs.Streams.{passStreams};
 ghost use Rattle.multistream.specs.Pad.{streamsPadLengths, streamsPadded};
 ghost use Rattle.multistream.specs.Unpad.{repackStreams, verdictOf, packedOf, streamsUnpadLength, streamsUnpadded};
@@ -34,7 +31,8 @@ fn pass_streams(data: &[u8], k: usize) -> Passed
     let mut at: usize = 0;
     let mut i: usize = 0;
     while i < k {
-        let p = opus::opus_packet_parse_impl(&data[at..], true);
+        let mut lengths = [0u16; 48];
+        let p = opus::read_into(&data[at..], true, &mut lengths);
         let v = p.verdict;
         let Verdict::Accepted = v else {
             return Passed::Stuck;
@@ -117,28 +115,15 @@ pub enum Checked {
     Refused(Refusal),
 }
 
-// The bytes of the compact packet of frames of these lengths.
-fn compact_size(ns: &[u16], self_delimited: bool) -> usize
-    requires { ⌜ (1 ≤ length (now ns)) × (length (now ns) ≤ 48) × (longest (now ns) ≤ mostBytes) ⌝ }
-    ensures { λ r. ⌜ r ≡ length (compactHeader «self_delimited» 0 (now (ns .entry))) + total (now (ns .entry)) ⌝ }
-{
-    let m = opus_header::sums_of(ns);
-    opus_header::compact_bytes(ns.len(), m, self_delimited)
-}
-
-// Reads the stream at the front of `data`, and sees that its compact form has room there.
+// Reads the stream at the front of `data`. Its compact form always has room there, since none is longer (`header-shortest`).
 fn check_stream(data: &[u8], self_delimited: bool) -> Checked
     requires { ⌜ length (now «data») ≤ 65535 ⌝ }
     ensures { λ r. ⌜ r ≡ checkedBy (now («data» .entry)) «self_delimited» (read «self_delimited» (now («data» .entry))) ⌝ }
 {
-    let p = opus::opus_packet_parse_impl(data, self_delimited);
+    let mut lengths = [0u16; 48];
+    let p = opus::read_into(data, self_delimited, &mut lengths);
     let v = p.verdict;
     let Verdict::Refused(e) = v else {
-        let n = p.count;
-        let lengths = p.lengths;
-        if data.len() < compact_size(&lengths[..n], self_delimited) {
-            return Checked::Refused(Refusal::BufferTooSmall);
-        }
         return Checked::Taken(p.taken);
     };
     Checked::Refused(e)
@@ -191,9 +176,9 @@ fn repack_stream(
     ensures bytes { λ _. ⌜ now («data» .exit) ≡ sets (now («data» .entry)) to (compactOf «self_delimited» (stream (now («data» .entry)) from len)) ⌝ }
     ensures next { λ r. ⌜ r ≡ nextPlaces to from «self_delimited» (stream (now («data» .entry)) from len) ⌝ }
 {
-    let p = opus::opus_packet_parse_impl(&data[from..len], self_delimited);
+    let mut lengths = [0u16; 48];
+    let p = opus::read_into(&data[from..len], self_delimited, &mut lengths);
     let n = p.count;
-    let lengths = p.lengths;
     let ns = &lengths[..n];
     let m = opus_header::sums_of(ns);
     let form = opus_header::compact_form(n);

@@ -13,3 +13,4 @@ pub mod AtSizes
 pub mod AtPadding
 pub mod AtFrames
 pub mod AtPacket
+pub mod Lent

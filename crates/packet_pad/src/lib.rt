@@ -82,11 +82,11 @@ fn pad_packet(data: &mut [u8], len: usize, new_len: usize) -> Answer
     ensures number { λ r. ⌜ numberOf r ≡ padPacket (now («data» .entry)) len «new_len» .number ⌝ }
     ensures bytes { λ _. ⌜ now («data» .exit) ≡ padPacket (now («data» .entry)) len «new_len» .bytes ⌝ }
 {
-    let p = opus::opus_packet_parse(&data[..len]);
+    let mut lengths = [0u16; 48];
+    let p = opus::read_into(&data[..len], false, &mut lengths);
     let v = p.verdict;
     let Verdict::Refused(e) = v else {
         let n = p.count;
-        let lengths = p.lengths;
         let first = p.first;
         pad_frames(data, p.toc, &lengths[..n], first, new_len);
         return Answer::Number(opus_defines::OPUS_OK);
@@ -175,11 +175,11 @@ fn unpad_packet(data: &mut [u8], len: usize) -> Answer
     ensures number { λ r. ⌜ numberOf r ≡ unpadPacket (now («data» .entry)) len .number ⌝ }
     ensures bytes { λ _. ⌜ now («data» .exit) ≡ unpadPacket (now («data» .entry)) len .bytes ⌝ }
 {
-    let p = opus::opus_packet_parse(&data[..len]);
+    let mut lengths = [0u16; 48];
+    let p = opus::read_into(&data[..len], false, &mut lengths);
     let v = p.verdict;
     let Verdict::Refused(e) = v else {
         let n = p.count;
-        let lengths = p.lengths;
         let first = p.first;
         return unpad_frames(data, p.toc, &lengths[..n], first, len);
     };

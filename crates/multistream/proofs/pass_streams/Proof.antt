@@ -3,6 +3,7 @@
 use Prim.Native.Nat.{_+_, _-_}
 use native.Mathlib.Omega.{arith}
 use borrow.Author.Needs.{needs}
+use Rattle.opus.specs.Answers.{answerOf}
 use Rattle.multistream.proofs.Passing.{Passing, passing-start, passing-end, passing-stuck, passing-more}
 use Rattle.multistream.proofs.pass_streams.Statement.{statement}
 use Rattle.multistream.proofs.pass_streams.Tie as tie
@@ -18,20 +19,20 @@ loop-holds c = passing-start _ _
 
 returns : tie.Need-returns Inv-loop μ-loop
 returns c =
-    let p = c .before .before in
-    let i = p .before .before in
+    let r = c .before .before .read-into in
+    let i = c .before .before .before .before .before in
     let l = i .before .loop in
     let b = i .before .before .before in
-    passing-stuck (b .args .«data» .now) (b .args .k) (l .at) (l .i) (l .inv) (p .opus-packet-parse-impl .result) (p .opus-packet-parse-impl .ensures) (i .loop-test .taken) _ (c .enum-told2 .given .1) (b .pre)
+    passing-stuck (b .args .«data» .now) (b .args .k) (l .at) (l .i) (l .inv) (answerOf (r .result) (r .last .1 .1 .0)) (r .ensures) (i .loop-test .taken) _ (c .enum-told2 .given .1) (b .pre)
 
-next : (c : tie.After-struct-known Inv-loop μ-loop) → let p = c .before .before .before in let i = p .before .before in let l = i .before .loop in let a = i .before .before .before .args in Passing (a .«data» .now) (a .k) (l .at + p .opus-packet-parse-impl .result .taken) (l .i + 1)
+next : (c : tie.After-struct-known Inv-loop μ-loop) → let r = c .before .before .before .read-into in let i = c .before .before .before .before .before .before in let l = i .before .loop in let a = i .before .before .before .args in Passing (a .«data» .now) (a .k) (l .at + r .result .taken) (l .i + 1)
 next c =
-    let p = c .before .before .before in
-    let i = p .before .before in
+    let r = c .before .before .before .read-into in
+    let i = c .before .before .before .before .before .before in
     let l = i .before .loop in
     let k = i .before .before in
     let a = k .before .args in
-    passing-more (a .«data» .now) (a .k) (l .at) (l .i) (l .inv) (p .opus-packet-parse-impl .result) (p .opus-packet-parse-impl .ensures) (i .loop-test .taken) (c .before .enum-told .given .1) (record { byte = λ j. k .shared-slice-known .given j .fits })
+    passing-more (a .«data» .now) (a .k) (l .at) (l .i) (l .inv) (answerOf (r .result) (r .last .1 .1 .0)) (r .ensures) (i .loop-test .taken) (c .before .enum-told .given .1) (record { byte = λ j. k .shared-slice-known .given j .fits })
 
 returns-2 : tie.Need-returns-2 Inv-loop μ-loop
 returns-2 c =

@@ -5,56 +5,61 @@ use mathlib.Core.Path.{refl, sym}
 use mathlib.Core.Bool.{false}
 use lib.Seq.{length-take-le}
 use borrow.Author.Needs.{needs}
+use Rattle.opus.specs.Answers.{answerOf}
+use Rattle.opus.specs.declared.Packet.{Packet}
+use Rattle.opus.proofs.Lent.{packetWith, lent-accepted}
 use Rattle.packet_pad.proofs.Framed.{Lies, lies}
 use Rattle.packet_pad.proofs.Calls.{meets, pad-read, pad-refused}
 use Rattle.packet_pad.proofs.pad_packet.Statement.{statement}
 use Rattle.packet_pad.proofs.pad_packet.Tie as tie
 
-slice-aggregate-opus-packet-parse : tie.Need-slice-aggregate-opus-packet-parse
-slice-aggregate-opus-packet-parse c = sym (length-take-le _ _ (omega arith))
+slice-aggregate-read-into : tie.Need-slice-aggregate-read-into
+slice-aggregate-read-into c = sym (length-take-le _ _ (omega arith))
 
 -- an accepted packet, and how its frames lie in the buffer
-lying : (c : tie.After-enum-told) → let p = c .before .before in let a = p .before .before .before .args in Lies false (a .«data» .now) (a .len) (p .opus-packet-parse .result)
+abbrev read : tie.After-enum-told → Packet
+read c = let r = c .before .before .read-into in packetWith (r .result) (r .last .1 .1 .0)
+
+lying : (c : tie.After-enum-told) → let a = c .before .before .before .before .before .before .args in Lies false (a .«data» .now) (a .len) (read c)
 lying c =
     let p = c .before .before in
-    let k = p .before .before in
+    let k = p .before .before .before in
     let a = k .before .args in
-    lies false (a .«data» .now) (a .len) (p .opus-packet-parse .result) (record { byte = λ i. k .slice-known .given i .fits }) (omega (arith, k .before .pre)) (p .opus-packet-parse .ensures) (c .enum-told .given .1)
+    lies false (a .«data» .now) (a .len) (read c) (record { byte = λ i. k .slice-known .given i .fits }) (omega (arith, k .before .pre)) (lent-accepted false _ _ _ (p .read-into .ensures) (c .enum-told .given .1)) (c .enum-told .given .1)
 
 array-share-prefix-lengths : tie.Need-array-share-prefix-lengths
-array-share-prefix-lengths c = lying (c .before .before) .inside
+array-share-prefix-lengths c = lying (c .before) .inside
 
 slice-aggregate-pad-frames : tie.Need-slice-aggregate-pad-frames
-slice-aggregate-pad-frames c = sym (length-take-le _ _ (lying (c .before .before .before) .inside))
+slice-aggregate-pad-frames c = sym (length-take-le _ _ (lying (c .before .before) .inside))
 
 pad-frames-requires : tie.Need-pad-frames-requires
 pad-frames-requires c κs =
-    let t = c .before .before .before in
-    let s = t .before .before .before .before .before in
+    let t = c .before .before in
+    let s = t .before .before .before .before .before .before in
     let l = lying t in
     (l .some, (omega (arith, l .within, s .pre), (omega (arith, l .within, l .short, s .pre), s .pre .1, s .pre .2)))
 
 returns : tie.Need-returns
 returns c =
     let b = c .before .before in
-    let t = b .before .before .before .before in
-    let p = t .before .before in
-    let a = p .before .before .before .args in
-    meets (pad-read (a .«data» .now) (a .len) (p .opus-packet-parse .result) (lying t) (a .new-len)) refl (b .pad-frames .ensures)
+    let t = b .before .before .before in
+    let a = t .before .before .before .before .before .before .args in
+    meets (pad-read (a .«data» .now) (a .len) (read t) (lying t) (a .new-len)) refl (b .pad-frames .ensures)
 
 returns-2 : tie.Need-returns-2
 returns-2 c =
-    let p = c .before .before .before in
-    let s = p .before .before .before in
+    let r = c .before .before .before .read-into in
+    let s = c .before .before .before .before .before .before .before in
     let a = s .args in
-    meets (pad-refused (a .«data» .now) (a .len) (p .opus-packet-parse .result) (p .opus-packet-parse .ensures) _ (c .before .v .given .1) (omega (arith, s .pre)) (a .new-len)) refl refl
+    meets (pad-refused (a .«data» .now) (a .len) (answerOf (r .result) (r .last .1 .1 .0)) (r .ensures) _ (c .before .v .given .1) (omega (arith, s .pre)) (a .new-len)) refl refl
 
 pub pad-packet-spec : {M : Type 1} → statement M
 pad-packet-spec =
     tie.close
     (tie.spec
     (λ c. search needs)
-    slice-aggregate-opus-packet-parse
+    slice-aggregate-read-into
     (λ c κs. search needs)
     (λ c. search needs)
     (λ c. search needs)

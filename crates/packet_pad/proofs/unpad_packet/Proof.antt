@@ -4,56 +4,61 @@ use mathlib.Core.Path.{refl, sym}
 use mathlib.Core.Bool.{false}
 use lib.Seq.{length-take-le}
 use borrow.Author.Needs.{needs}
+use Rattle.opus.specs.Answers.{answerOf}
+use Rattle.opus.specs.declared.Packet.{Packet}
+use Rattle.opus.proofs.Lent.{packetWith, lent-accepted}
 use Rattle.packet_pad.proofs.Framed.{Lies, lies}
 use Rattle.packet_pad.proofs.Calls.{meets, unpad-read, unpad-refused}
 use Rattle.packet_pad.proofs.unpad_packet.Statement.{statement}
 use Rattle.packet_pad.proofs.unpad_packet.Tie as tie
 
-slice-aggregate-opus-packet-parse : tie.Need-slice-aggregate-opus-packet-parse
-slice-aggregate-opus-packet-parse c = sym (length-take-le _ _ (c .before .before .pre .0))
+slice-aggregate-read-into : tie.Need-slice-aggregate-read-into
+slice-aggregate-read-into c = sym (length-take-le _ _ (c .before .before .pre .0))
 
 -- an accepted packet, and how its frames lie in the buffer
-lying : (c : tie.After-enum-told) → let p = c .before .before in let a = p .before .before .before .args in Lies false (a .«data» .now) (a .len) (p .opus-packet-parse .result)
+abbrev read : tie.After-enum-told → Packet
+read c = let r = c .before .before .read-into in packetWith (r .result) (r .last .1 .1 .0)
+
+lying : (c : tie.After-enum-told) → let a = c .before .before .before .before .before .before .args in Lies false (a .«data» .now) (a .len) (read c)
 lying c =
     let p = c .before .before in
-    let k = p .before .before in
+    let k = p .before .before .before in
     let a = k .before .args in
-    lies false (a .«data» .now) (a .len) (p .opus-packet-parse .result) (record { byte = λ i. k .slice-known .given i .fits }) (k .before .pre .0) (p .opus-packet-parse .ensures) (c .enum-told .given .1)
+    lies false (a .«data» .now) (a .len) (read c) (record { byte = λ i. k .slice-known .given i .fits }) (k .before .pre .0) (lent-accepted false _ _ _ (p .read-into .ensures) (c .enum-told .given .1)) (c .enum-told .given .1)
 
 array-share-prefix-lengths : tie.Need-array-share-prefix-lengths
-array-share-prefix-lengths c = lying (c .before .before) .inside
+array-share-prefix-lengths c = lying (c .before) .inside
 
 slice-aggregate-unpad-frames : tie.Need-slice-aggregate-unpad-frames
-slice-aggregate-unpad-frames c = sym (length-take-le _ _ (lying (c .before .before .before) .inside))
+slice-aggregate-unpad-frames c = sym (length-take-le _ _ (lying (c .before .before) .inside))
 
 unpad-frames-requires : tie.Need-unpad-frames-requires
 unpad-frames-requires c κs =
-    let t = c .before .before .before in
-    let s = t .before .before .before .before .before in
+    let t = c .before .before in
+    let s = t .before .before .before .before .before .before in
     (lying t .some, (lying t .within, s .pre .0, s .pre .1))
 
 returns : tie.Need-returns
 returns c =
     let b = c .before .before in
-    let t = b .before .before .before .before in
-    let p = t .before .before in
-    let s = p .before .before .before in
+    let t = b .before .before .before in
+    let s = t .before .before .before .before .before .before in
     let a = s .args in
-    meets (unpad-read (a .«data» .now) (a .len) (p .opus-packet-parse .result) (lying t) (s .pre .0)) (b .unpad-frames .ensures .0) (b .unpad-frames .ensures .1)
+    meets (unpad-read (a .«data» .now) (a .len) (read t) (lying t) (s .pre .0)) (b .unpad-frames .ensures .0) (b .unpad-frames .ensures .1)
 
 returns-2 : tie.Need-returns-2
 returns-2 c =
-    let p = c .before .before .before in
-    let s = p .before .before .before in
+    let r = c .before .before .before .read-into in
+    let s = c .before .before .before .before .before .before .before in
     let a = s .args in
-    meets (unpad-refused (a .«data» .now) (a .len) (p .opus-packet-parse .result) (p .opus-packet-parse .ensures) _ (c .before .v .given .1) (s .pre .1)) refl refl
+    meets (unpad-refused (a .«data» .now) (a .len) (answerOf (r .result) (r .last .1 .1 .0)) (r .ensures) _ (c .before .v .given .1) (s .pre .1)) refl refl
 
 pub unpad-packet-spec : {M : Type 1} → statement M
 unpad-packet-spec =
     tie.close
     (tie.spec
     (λ c. search needs)
-    slice-aggregate-opus-packet-parse
+    slice-aggregate-read-into
     (λ c κs. search needs)
     (λ c. search needs)
     (λ c. search needs)
