@@ -1,11 +1,12 @@
 -- The core's answers fit the records that C sees.
---     parsed-few, size-few         the count and the bytes used are small numbers
+--     size-few                     the bytes used are a small number
 --     size-passed, rate-passed     a call is passed the bits of a signed number
---     record-..                    an add, by its verdict
+--     read-few, record-read, ..    a packet that was read, by its verdict
+--     record-accepted, ..          an add, by its verdict
 -- Assumes nothing.
 use Prim.Native.Nat.{ℕ, _-_, _≤_}
 use native.Mathlib.Omega.{arith}
-use mathlib.Core.Path.{_≡_, refl}
+use mathlib.Core.Path.{_≡_, refl, sym, ap, _∙_}
 use mathlib.Core.List.{List}
 use mathlib.Core.Bool.{Bool}
 use lib.Dec.{ltb}
@@ -15,32 +16,63 @@ use mir.Syntax.{w32}
 use mir.Val.{toZ, ofZ, SFits}
 use mir.ValLaws.{toZ-ofZ}
 use Rattle.laws.specs.Bytes.{Bytes}
-use Rattle.laws.proofs.Never.{by-test}
+use Rattle.laws.proofs.Never.{never, by-test}
 use Rattle.opus_defines.specs.Numbers.{refusalNumber}
 use Rattle.opus_defines.specs.declared.Refusal.{Refusal}
+use Rattle.opus_defines.specs.declared.Refusal.the-variants.{BadArg}
 use Rattle.opus_defines.specs.declared.Verdict.the-variants.{Accepted, Refused}
 use Rattle.opus_size.specs.Size.{Field, noField, field, lengthField, readField}
 use Rattle.opus_size.specs.Answers.{encodeSize, sizeOf, parseSize}
 use Rattle.opus_size.proofs.Fields.{width, field-was}
 use Rattle.opus_toc.specs.Answers.{samplesPerFrame}
 use Rattle.opus.specs.Reading.{Reading, refused, accepted, read}
-use Rattle.opus.specs.Answers.{packetOf, parsed}
+use Rattle.opus.specs.Answers.{noPacket, packetOf, parsed, answerOf}
+use Rattle.opus.specs.declared.Packet.{Packet}
+use Rattle.opus.specs.declared.PacketHead.{PacketHead}
+use Rattle.opus.proofs.Lent.{lent-accepted}
 use Rattle.opus.proofs.Facts.{facts}
 use Rattle.repacketizer.specs.Adding.{added}
 use Rattle.repacketizer.specs.declared.OpusRepacketizer.{OpusRepacketizer}
 use Rattle.repacketizer.specs.declared.Added.{Added}
 use Rattle.repacketizer.proofs.Adds.{ends, refused-same}
-use Rattle.aveluafi.specs.Records.{addRecord}
+use Rattle.aveluafi.specs.Records.{packetRecord, addRecord}
 use Rattle.aveluafi.specs.declared.collector.AddRecord.{AddRecord}
 
--- at most 48 frames
-pub parsed-few : (sd : Bool) (p : List ℕ) → Bytes p → parsed sd p .count ≤ 48
+-- ---- a packet that was read, with its lengths in the array l
+few : (sd : Bool) (p : List ℕ) → Bytes p → parsed sd p .count ≤ 48
 unfolding parsed
-parsed-few sd p bytes = by-test (ltb 65535 (length p)) (λ t. rw t (omega arith)) (λ t. rw t (go (read sd p) refl))
+few sd p bytes = by-test (ltb 65535 (length p)) (λ t. rw t (omega arith)) (λ t. rw t (go (read sd p) refl))
   where
     go : (x : Reading) → read sd p ≡ x → packetOf (read sd p) .count ≤ 48
     go (refused rule) q = rw q (omega arith)
     go (accepted toc ns first taken) q = rw q (facts sd p toc ns first taken bytes q .few)
+
+-- beside a refusal the answer is zeros
+refused-zeros : (sd : Bool) (p : List ℕ) (e : Refusal) → parsed sd p .verdict ≡ Refused e → parsed sd p ≡ noPacket e
+unfolding parsed
+refused-zeros sd p e v =
+    by-test (ltb 65535 (length p))
+    (λ t. let w : Refused BadArg ≡ Refused e = rw t at v in rw t (ap noPacket (same w)))
+    (λ t. let w : packetOf (read sd p) .verdict ≡ Refused e = rw t at v in rw t (go (read sd p) w))
+  where
+    same : {a : Refusal} → Refused a ≡ Refused e → a ≡ e
+    same w = cc
+
+    go : (x : Reading) → packetOf x .verdict ≡ Refused e → packetOf x ≡ noPacket e
+    go (refused rule) w = ap noPacket (same w)
+    go (accepted toc ns first taken) w = never (cc)
+
+module _ (sd : Bool) (p : List ℕ) (h : PacketHead) (l : List ℕ) where
+  -- at most 48 frames
+  pub read-few : Bytes p → answerOf h l ≡ parsed sd p → h .count ≤ 48
+  read-few bytes e = let n : h .count ≡ parsed sd p .count = ap (λ (r : Packet). r .count) e in omega (arith, n, few sd p bytes)
+
+  module _ (e : answerOf h l ≡ parsed sd p) where
+    pub record-read : h .verdict ≡ Accepted → {n : ℤ} → n ≡ pos (h .count) → record { number = n; toc = h .toc; lengths = l; «payload_offset» = h .first; «packet_offset» = h .taken } ≡ packetRecord (parsed sd p)
+    record-read v m = rw (m, ← lent-accepted sd p h l e v, v)
+
+    pub record-unread : {c : Refusal} → h .verdict ≡ Refused c → packetRecord (noPacket c) ≡ packetRecord (parsed sd p)
+    record-unread {c} v = ap packetRecord (sym (refused-zeros sd p c (ap (λ (r : Packet). r .verdict) (sym e) ∙ v)))
 
 -- a field of one or two bytes
 pub size-few : (s : List ℕ) → Bytes s → parseSize s .bytes ≤ 2

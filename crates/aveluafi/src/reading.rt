@@ -5,9 +5,11 @@ ghost use Prim.Native.Nat.{_≤_};
 ghost use Rattle.opus_defines.specs.Numbers.{numberOf};
 ghost use Rattle.opus_size.specs.Answers.{encodeSize, parseSize};
 ghost use Rattle.opus_toc.specs.Answers.{samplesPerFrame, nbFrames};
-ghost use Rattle.opus.specs.Answers.{parsed};
+ghost use Rattle.opus.specs.Answers.{noPacket, parsed};
 ghost use Rattle.aveluafi.specs.Records.{sizeRecord, packetRecord};
-use opus::Packet;
+use opus_defines::Answer;
+use opus_defines::Refusal;
+use opus_defines::Verdict;
 use opus_size::Size;
 
 // A length that was read.
@@ -70,18 +72,16 @@ pub extern "C" fn aveluafi_packet_get_nb_frames(data: &[u8]) -> i32
     opus_toc::opus_packet_get_nb_frames(data)
 }
 
-fn packet_record(p: Packet) -> AveluafiPacket
-    requires { ⌜ p .count ≤ 48 ⌝ }
-    ensures { λ r. ⌜ r ≡ packetRecord p ⌝ }
+// Zeros beside a refusal.
+fn no_packet(e: Refusal) -> AveluafiPacket
+    ensures { λ r. ⌜ r ≡ packetRecord (noPacket e) ⌝ }
 {
-    let v = p.verdict;
-    let lengths = p.lengths;
     AveluafiPacket {
-        number: opus_defines::verdict_number(p.count as u16, v),
-        toc: p.toc,
-        lengths,
-        payload_offset: p.first,
-        packet_offset: p.taken,
+        number: opus_defines::refusal_number(e),
+        toc: 0,
+        lengths: [0u16; 48],
+        payload_offset: 0,
+        packet_offset: 0,
     }
 }
 
@@ -90,7 +90,19 @@ fn packet_record(p: Packet) -> AveluafiPacket
 pub extern "C" fn aveluafi_packet_parse_impl(data: &[u8], self_delimited: bool) -> AveluafiPacket
     ensures { λ r. ⌜ r ≡ packetRecord (parsed «self_delimited» (now («data» .entry))) ⌝ }
 {
-    packet_record(opus::opus_packet_parse_impl(data, self_delimited))
+    let mut lengths = [0u16; 48];
+    let p = opus::read_into(data, self_delimited, &mut lengths);
+    let v = p.verdict;
+    let Verdict::Refused(e) = v else {
+        return AveluafiPacket {
+            number: opus_defines::number_of(Answer::Number(p.count as u16)),
+            toc: p.toc,
+            lengths,
+            payload_offset: p.first,
+            packet_offset: p.taken,
+        };
+    };
+    no_packet(e)
 }
 
 // The ordinary packet.
@@ -98,5 +110,5 @@ pub extern "C" fn aveluafi_packet_parse_impl(data: &[u8], self_delimited: bool) 
 pub extern "C" fn aveluafi_packet_parse(data: &[u8]) -> AveluafiPacket
     ensures { λ r. ⌜ r ≡ packetRecord (parsed false (now («data» .entry))) ⌝ }
 {
-    packet_record(opus::opus_packet_parse(data))
+    aveluafi_packet_parse_impl(data, false)
 }

@@ -1,19 +1,44 @@
--- `aveluafi::reading::aveluafi_packet_parse_impl` meets its contract: it is the core's answer, as a record.
+-- `aveluafi::reading::aveluafi_packet_parse_impl` meets its contract: the core's answer as a record, by its verdict.
 -- Assumes nothing.
-use mathlib.Core.Path.{_∙_, ap}
+use native.Mathlib.Omega.{arith}
+use mathlib.Core.Path.{_≡_, _∙_}
+use mir.Syntax.{w32}
+use mir.Val.{toZ, ofZ}
 use borrow.Author.Needs.{needs}
-use Rattle.aveluafi.specs.Records.{packetRecord}
-use Rattle.aveluafi.proofs.Records.{parsed-few}
+use Rattle.aveluafi.proofs.Records.{read-few, record-read, record-unread}
 use Rattle.aveluafi.proofs.reading.aveluafi_packet_parse_impl.Statement.{statement}
 use Rattle.aveluafi.proofs.reading.aveluafi_packet_parse_impl.Tie as tie
 
-packet-record-requires : tie.Need-packet-record-requires
-packet-record-requires c κs =
-    let k = c .before .shared-slice-known in
-    rw (c .opus-packet-parse-impl .ensures) (parsed-few (c .before .before .args .self-delimited) (c .before .before .args .«data» .now) (record { byte = λ i. k .given i .fits }))
+cast-t9 : tie.Need-cast-t9
+cast-t9 c =
+    let r = c .before .before .before .read-into in
+    let k = c .before .before .before .before .before in
+    let a = k .before .args in
+    omega (arith, read-few (a .self-delimited) (a .«data» .now) (r .result) (r .last .1 .1 .0) (record { byte = λ i. k .shared-slice-known .given i .fits }) (r .ensures))
 
 returns : tie.Need-returns
-returns c = c .packet-record .ensures ∙ ap packetRecord (c .before .opus-packet-parse-impl .ensures)
+returns c =
+    let r = c .before .before .before .before .read-into in
+    let a = c .before .before .before .before .before .before .before .args in
+    let n = c .number-of in
+    let back : toZ w32 (ofZ w32 (n .result)) ≡ n .result = search needs in
+    record-read (a .self-delimited) (a .«data» .now) (r .result) (r .last .1 .1 .0) (r .ensures) (c .before .before .enum-told .given .1) (back ∙ n .ensures)
+
+returns-2 : tie.Need-returns-2
+returns-2 c =
+    let r = c .before .before .before .before .read-into in
+    let a = c .before .before .before .before .before .before .before .args in
+    c .no-packet .ensures ∙ record-unread (a .self-delimited) (a .«data» .now) (r .result) (r .last .1 .1 .0) (r .ensures) (c .before .before .v .given .1)
 
 pub aveluafi-packet-parse-impl-spec : {M : Type 1} → statement M
-aveluafi-packet-parse-impl-spec = tie.close (tie.spec (λ c κs. search needs) packet-record-requires returns)
+aveluafi-packet-parse-impl-spec =
+    tie.close
+    (tie.spec
+    (λ c κs. search needs)
+    (λ c. search needs)
+    (λ c. search needs)
+    cast-t9
+    (λ c κs. search needs)
+    returns
+    (λ c κs. search needs)
+    returns-2)
