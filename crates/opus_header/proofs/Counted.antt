@@ -8,13 +8,13 @@ use mathlib.Core.List.{List, [], _∷_, _++_, append-nil}
 use mathlib.Core.Bool.{Bool, true, false}
 use lib.ListN.{length, getD, take, length-append}
 use lib.Seq.{take-all}
-use Rattle.opus_size.specs.Size.{lengthField, lengthFields}
+use Rattle.opus_size.specs.Size.{mostBytes, lengthField, lengthFields}
 use Rattle.opus_size.proofs.Fields.{width}
-use Rattle.opus.specs.Frames.{total}
+use Rattle.opus.specs.Frames.{total, longest}
 use Rattle.opus.proofs.Frames.{total-snoc}
 use Rattle.opus_header.specs.Header.{allAre, same, firsts, last, sizes}
 use Rattle.opus_header.specs.Sums.{sumsOf}
-use Rattle.opus.proofs.Lengths.{take-next}
+use Rattle.opus.proofs.Lengths.{longest-at, take-next}
 use Rattle.opus_header.proofs.Lengths.{firsts-whole, last-at, same-all, all-agree, all-differ}
 use Rattle.opus_header.proofs.Sizes.{fields-append, fields-next}
 
@@ -24,7 +24,7 @@ pub record Counted (ns : List ℕ) (t f : ℕ) (alike : Bool) (i : ℕ) : Type 0
   pub sum : t ≡ total (take i ns)
   pub fields : f ≡ length (lengthFields (take i ns))
   pub agree : alike ≡ allAre (getD ns 0 0) (take i ns)
-  pub small : t ≤ 65535 * i
+  pub small : t ≤ 1275 * i
   pub few : f ≤ 2 * i
 
 pub counted-start : (ns : List ℕ) → Counted ns 0 0 true 0
@@ -39,14 +39,18 @@ module _ {ns : List ℕ} {t f : ℕ} {alike : Bool} {i : ℕ} (k : Counted ns t 
     pub differs : (n ≡ first → ⊥) → false ≡ allAre (getD ns 0 0) (take (i + 1) ns)
     differs d = rw (take-next ns i h, all-differ (getD ns 0 0) (take i ns) (getD ns i 0) (λ s. d (g ∙ (s ∙ sym e))))
 
-    pub counted-more : n < 65536 → {b : ℕ} → b ≡ length (lengthField n) → {alike′ : Bool} → alike′ ≡ allAre (getD ns 0 0) (take (i + 1) ns) → Counted ns (t + n) (f + b) alike′ (i + 1)
-    counted-more bound eb s =
+    -- 48 lengths of 1275 bytes fit 16 bits
+    pub counted-small : longest ns ≤ mostBytes → t + n ≤ 1275 * (i + 1)
+    counted-small s = omega (arith, k .small, longest-at ns i h, g)
+
+    pub counted-more : longest ns ≤ mostBytes → {b : ℕ} → b ≡ length (lengthField n) → {alike′ : Bool} → alike′ ≡ allAre (getD ns 0 0) (take (i + 1) ns) → Counted ns (t + n) (f + b) alike′ (i + 1)
+    counted-more short eb s =
         record {
           most = omega arith;
           sum = rw (take-next ns i h, total-snoc, ← g) (omega arith);
           fields = rw (fields-next ns i h, ← g, length-append) (omega arith);
           agree = s;
-          small = omega arith;
+          small = counted-small short;
           few = omega (arith, width n);
         }
 
@@ -70,16 +74,17 @@ module _ {ns : List ℕ} {t f : ℕ} {alike : Bool} {i : ℕ} (k : Counted ns t 
         let l : length (lengthFields ns) ≡ length (lengthFields (firsts ns)) + length (lengthField z) = rw (w, ends, append-nil, length-append) in
         (rw all at (k .fields)) ∙ l
 
-    pub counted-same : alike ≡ true → record { total = t; sizes = 0; same = alike; last = z } ≡ sumsOf ns
-    unfolding sumsOf
-    counted-same s = rw (sum-whole, ← agree-whole, ends, s)
-
-    module _ {b : ℕ} (eb : b ≡ length (lengthField z)) where
-      pub counted-field : b ≤ f
-      counted-field = omega (arith, fields-whole)
-
-      pub counted-differ : alike ≡ false → record { total = t; sizes = f - b; same = alike; last = z } ≡ sumsOf ns
+    -- as the struct has them
+    module _ {tw zw : ℕ} (wt : tw ≡ t) (wz : zw ≡ z) where
+      pub counted-same : alike ≡ true → record { total = tw; sizes = 0; same = alike; last = zw } ≡ sumsOf ns
       unfolding sumsOf
-      counted-differ s =
+      counted-same s = rw (wt, wz, sum-whole, ← agree-whole, ends, s)
+
+      pub counted-differ : {b fw : ℕ} → b ≡ length (lengthField z) → fw ≡ f - b → alike ≡ false → record { total = tw; sizes = fw; same = alike; last = zw } ≡ sumsOf ns
+      unfolding sumsOf
+      counted-differ {b} eb wf s =
           let left : f - b ≡ length (lengthFields (firsts ns)) = omega (arith, fields-whole) in
-          rw (left, sum-whole, ← agree-whole, ends, s)
+          rw (wt, wz, wf, left, sum-whole, ← agree-whole, ends, s)
+
+    pub counted-field : {b : ℕ} → b ≡ length (lengthField z) → b ≤ f
+    counted-field eb = omega (arith, fields-whole)

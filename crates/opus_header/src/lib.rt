@@ -5,7 +5,7 @@ ghost use Prim.Native.Nat.{_+_, _*_, _<_, _≤_};
 ghost use lib.Dec.{eqb};
 ghost use lib.ListN.{length};
 ghost use lib.Seq.{sets};
-ghost use Rattle.opus_size.specs.Size.{mostBytes, lengthFields};
+ghost use Rattle.opus_size.specs.Size.{mostBytes, lengthField, lengthFields};
 ghost use Rattle.opus_toc.specs.Toc.{upperSix};
 ghost use Rattle.opus.specs.Frames.{longest};
 ghost use Rattle.opus.specs.Format.{ownLength};
@@ -34,34 +34,47 @@ fn wide(x: u16) -> usize
     x as usize
 }
 
+// The bytes of a length's field.
+fn field_bytes(n: u16) -> u16
+    ensures { λ r. ⌜ r ≡ length (lengthField n) ⌝ }
+{
+    if n < 252 { 1 } else { 2 }
+}
+
+// One pass in 16 bits, which hold the sum of 48 lengths, so that the compiler makes a wide loop of it.
 pub fn sums_of(ns: &[u16]) -> Sums
-    requires { ⌜ (1 ≤ length (now ns)) × (length (now ns) ≤ 48) ⌝ }
+    requires { ⌜ (1 ≤ length (now ns)) × (length (now ns) ≤ 48) × (longest (now ns) ≤ mostBytes) ⌝ }
     ensures { λ r. ⌜ r ≡ sumsOf (now (ns .entry)) ⌝ }
 {
-    let first = wide(ns[0]);
-    let last = wide(ns[ns.len() - 1]);
-    let mut total: usize = 0;
-    let mut fields: usize = 0;
+    let first = ns[0];
+    let last = ns[ns.len() - 1];
+    let mut total: u16 = 0;
+    let mut fields: u16 = 0;
     let mut same = true;
     let mut i: usize = 0;
     while i < ns.len() {
-        let n = wide(ns[i]);
+        let n = ns[i];
         total += n;
-        fields += opus_size::size_bytes(n);
+        fields += field_bytes(n);
         if n != first {
             same = false;
         }
         i += 1;
     }
+    if same {
+        return Sums {
+            total: wide(total),
+            sizes: 0,
+            same,
+            last: wide(last),
+        };
+    }
+    let sizes = fields - field_bytes(last);
     Sums {
-        total,
-        sizes: if same {
-            0
-        } else {
-            fields - opus_size::size_bytes(last)
-        },
+        total: wide(total),
+        sizes: wide(sizes),
         same,
-        last,
+        last: wide(last),
     }
 }
 

@@ -82,7 +82,7 @@ repack-stream-spec =
     (λ c κs. search needs)
     (λ c. lies c .inside)
     (λ c. sym (length-take-le _ _ (lies (c .before) .inside)))
-    (λ c κs. (lies (c .before) .some .0, lies (c .before) .some .1))
+    (λ c κs. lies (c .before) .some)
     (λ c κs. search needs)
     (λ c. search needs)
     (λ c. omega (arith, lies (c .before .before .before .before) .within, c .before .before .before .before .before .before .before .before .before .pre .0))

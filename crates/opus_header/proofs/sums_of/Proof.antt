@@ -3,12 +3,12 @@
 -- Assumes nothing.
 use Prim.Native.Nat.{_-_}
 use native.Mathlib.Omega.{arith}
-use mathlib.Core.Path.{_∙_}
+use mathlib.Core.Path.{refl, _∙_}
 use mathlib.Core.Logic.{⊎-elim}
-use lib.ListN.{length}
+use lib.ListN.{length, getD}
 use borrow.Author.Needs.{needs}
 use Rattle.opus_size.proofs.Fields.{width}
-use Rattle.opus_header.proofs.Counted.{Counted, counted-start, agrees, differs, counted-more, counted-field, counted-same, counted-differ}
+use Rattle.opus_header.proofs.Counted.{Counted, counted-start, agrees, differs, counted-small, counted-more, counted-field, counted-same, counted-differ}
 use Rattle.opus_header.proofs.sums_of.Statement.{statement}
 use Rattle.opus_header.proofs.sums_of.Tie as tie
 
@@ -19,39 +19,44 @@ abbrev μ-loop : tie.MeasureT-loop
 μ-loop ns first last total₀ fields₀ same₀ i₀ total fields same i = length ns - i
 
 loop-holds : tie.Need-loop-holds Inv-loop μ-loop
-loop-holds c = counted-start (c .before .before .before .before .before .args .ns .now)
+loop-holds c = counted-start (c .before .before .before .args .ns .now)
+
+add-total : tie.Need-add-total Inv-loop μ-loop
+add-total c =
+    let l = c .before .before .loop in
+    let s = c .before .before .before .before .before .before in
+    omega (arith, counted-small (l .inv) refl refl (c .before .loop-test .taken) (s .pre .2), s .pre .1)
 
 add-fields : tie.Need-add-fields Inv-loop μ-loop
-add-fields c = omega (arith, width (c .before .wide3 .result))
+add-fields c =
+    let l = c .before .before .before .loop in
+    let s = c .before .before .before .before .before .before .before in
+    omega (arith, l .inv .few, l .inv .most, s .pre .1, c .field-bytes .ensures, width (getD (s .args .ns .now) (l .i) 0))
 
 loop-again : tie.Need-loop-again Inv-loop μ-loop
 loop-again c =
     let b = c .before in
-    let n = b .before .wide3 in
-    let l = b .before .before .before .before .loop in
-    let w = b .before .before .before .before .before .before .before .wide in
-    counted-more (l .inv) (w .ensures .0) (n .ensures .0) (omega arith) (n .ensures .1) (b .size-bytes .ensures)
-    (⊎-elim (λ s. s .1 ∙ differs (l .inv) (w .ensures .0) (n .ensures .0) (omega arith) (s .0 .taken))
-    (λ s. s .1 ∙ agrees (l .inv) (w .ensures .0) (n .ensures .0) (omega arith) (s .0 .left))
-    (c .if1 .came))
+    let l = b .before .before .before .loop in
+    let s = b .before .before .before .before .before .before .before in
+    let h = b .before .before .loop-test .taken in
+    counted-more (l .inv) refl refl h (s .pre .2) (b .field-bytes .ensures)
+    (⊎-elim (λ t. t .1 ∙ differs (l .inv) refl refl h (t .0 .taken)) (λ t. t .1 ∙ agrees (l .inv) refl refl h (t .0 .left)) (c .if1 .came))
 
-sub-t35 : tie.Need-sub-t35 Inv-loop μ-loop
-sub-t35 c =
+sub-sizes : tie.Need-sub-sizes Inv-loop μ-loop
+sub-sizes c =
     let l = c .before .before .before .loop in
-    let z = c .before .before .before .before .wide2 in
-    omega (arith, counted-field (l .inv) (z .ensures .0) (omega arith) (omega arith) (c .size-bytes2 .ensures))
+    counted-field (l .inv) refl (omega arith) (omega arith) (c .field-bytes2 .ensures)
 
 returns : tie.Need-returns Inv-loop μ-loop
 returns c =
-    let l = c .before .before .loop in
-    let z = c .before .before .before .wide2 in
-    counted-same (l .inv) (z .ensures .0) (omega arith) (omega arith) (c .if2 .taken)
+    let l = c .before .before .before .before .loop in
+    counted-same (l .inv) refl (omega arith) (omega arith) (c .before .wide .ensures .0) (c .wide2 .ensures .0) (c .before .before .if2 .taken)
 
 returns-2 : tie.Need-returns-2 Inv-loop μ-loop
 returns-2 c =
-    let l = c .before .before .before .loop in
-    let z = c .before .before .before .before .wide2 in
-    counted-differ (l .inv) (z .ensures .0) (omega arith) (omega arith) (c .size-bytes2 .ensures) (c .before .if2 .left)
+    let f = c .before .before .before in
+    let l = f .before .before .before .loop in
+    counted-differ (l .inv) refl (omega arith) (omega arith) (c .before .before .wide3 .ensures .0) (c .wide5 .ensures .0) (f .field-bytes2 .ensures) (c .before .wide4 .ensures .0) (f .before .if2 .left)
 
 pub sums-of-spec : {M : Type 1} → statement M
 sums-of-spec =
@@ -60,22 +65,24 @@ sums-of-spec =
     Inv-loop
     μ-loop
     (λ c. search needs)
-    (λ c κs. search needs)
     (λ c. search needs)
     (λ c. search needs)
     (λ c. search needs)
-    (λ c κs. search needs)
     loop-holds
     (λ c. search needs)
     (λ c. search needs)
-    (λ c κs. search needs)
-    (λ c. search needs)
+    add-total
     (λ c κs. search needs)
     add-fields
     (λ c. search needs)
     (λ c. search needs)
     loop-again
     (λ c κs. search needs)
-    sub-t35
+    (λ c κs. search needs)
     returns
+    (λ c κs. search needs)
+    sub-sizes
+    (λ c κs. search needs)
+    (λ c κs. search needs)
+    (λ c κs. search needs)
     returns-2)
