@@ -5,6 +5,7 @@
      bench check             sees that every side answers the same number and the same bytes on every set; says where not, and exits 1
      bench SIDE KEY N        N calls, for an instruction counter; SIDE is none, ours, crate or libopus
      bench time KEY N        nanoseconds of a call for each side: rounds of N calls take turns, and the least counts
+     bench stack             the bytes of stack below the caller that our side uses, the most over the sets of each call
 
    `none` is the loop with a call of an empty function in place of the side's: its count, the harness's own, is taken off by `run`.
 
@@ -514,6 +515,34 @@ static void measure(const char *key, long n) {
     for (enum side side = OURS; side < SIDES; side++) printf("%.1f%c", 1e9 * (least[side] - least[NONE]), side == LIBOPUS ? '\n' : ' ');
 }
 
+/* ---- stack: the memory below this frame is painted, the call is made, and the deepest byte that is not paint any more tells */
+
+enum { DEEP = 32768, PAINT = 0xa5 };
+
+static __attribute__((noinline)) void paint(void) {
+    volatile uint8_t area[DEEP];
+    for (int i = 0; i < DEEP; i++) area[i] = PAINT;
+}
+static __attribute__((noinline)) int deepest(void) {
+    volatile uint8_t area[DEEP];
+    int i = 0;
+    while (i < DEEP && area[i] == PAINT) i++;
+    return DEEP - i;
+}
+
+static int most[STREAMS_PAD + 1];
+
+static void stack_of(const char *key) {
+    struct set s;
+    of(key, &s);
+    if (calls[s.kind].in_place) memcpy(buffer, s.packet[0], s.len[0]);
+    call *ours = calls[s.kind].side[OURS];
+    paint();
+    ours(&s);
+    int used = deepest();
+    if (used > most[s.kind]) most[s.kind] = used;
+}
+
 int main(int n, char **word) {
     if (crate_repacketizer_get_size() > (int)sizeof crate_rp || opus_repacketizer_get_size() > (int)sizeof libopus_rp) {
         fprintf(stderr, "bench: a collector is larger than its place here\n");
@@ -529,6 +558,12 @@ int main(int n, char **word) {
         each_key(compare, true);
         printf("%d sets: each side answers the same number and bytes on %d\n", compared, compared - differ);
         return differ != 0;
+    }
+    if (n == 2 && !strcmp(word[1], "stack")) {
+        each_key(stack_of, false);
+        each_key(stack_of, true);
+        for (int i = 0; i <= STREAMS_PAD; i++) printf("%s\t%d\n", calls[i].name, most[i]);
+        return 0;
     }
     if (n == 4 && !strcmp(word[1], "time")) {
         measure(word[2], atol(word[3]));
