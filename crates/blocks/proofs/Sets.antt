@@ -8,7 +8,7 @@ use native.Mathlib.Nat.{add-zero, zero-add, add-suc, suc-add, not-suc-le-zero}
 use native.Mathlib.Numerals.{add-one}
 use native.Mathlib.Omega.{arith}
 use lib.ListN.{length, take, drop, getD, set, replicate, length-take, length-drop, length-set, length-replicate, replicate-append-replicate}
-use lib.Seq.{sets, sets-eq, take-append-seam, drop-append-seam, take-suc, drop-cons, getD-set-same, getD-set-other, getD-drop, set-comm, set-getD}
+use lib.Seq.{sets, sets-eq, take-append-seam, drop-append-seam, take-suc, getD-set-same, getD-set-other, getD-drop, set-comm, set-getD, set-set, take-add, drop-drop}
 use Rattle.blocks.specs.Blocks.{part, moved, filled, copied}
 
 -- two runs, one after the other, are one run
@@ -38,24 +38,32 @@ sets-before-sets l at us bt vs e =
     let h : at + length us ≤ bt = omega arith in
     rw (sets-sets l at us bt vs, sets-append, e)
 
+-- a run hides a shorter one at its place, and is hidden by a longer one that begins with it
+pub sets-over : (l : List ℕ) (at : ℕ) (us vs : List ℕ) → length us ≤ length vs → sets (sets l at us) at vs ≡ sets l at vs
+sets-over l at [] vs h = refl
+sets-over l at (u ∷ us) [] h = absurd (not-suc-le-zero h)
+sets-over l at (u ∷ us) (v ∷ vs) h =
+    let h′ : length us ≤ length vs = omega arith in
+    let t : at < suc at = omega arith in
+    rw (set-sets (set l at u) at v (suc at) us t, set-set) (sets-over (set l at v) (suc at) us vs h′)
+
+pub sets-again : (l : List ℕ) (at : ℕ) (us vs : List ℕ) → sets (sets l at (us ++ vs)) at us ≡ sets l at (us ++ vs)
+sets-again l at [] vs = refl
+sets-again l at (u ∷ us) vs =
+    let t : at < suc at = omega arith in
+    rw (set-sets (set l at u) at u (suc at) (us ++ vs) t, set-set) (sets-again (set l at u) (suc at) us vs)
+
 -- a run's first element may be what stands there
 pub sets-kept : (l : List ℕ) (at : ℕ) (vs : List ℕ) → sets l at (getD l at 0 ∷ vs) ≡ sets l (suc at) vs
 sets-kept l at vs = ap (λ (m : List ℕ). sets m (suc at) vs) (set-getD l at 0)
 
--- what a run leaves before it, and past it
+-- what a run leaves before it
 pub sets-before : (l : List ℕ) (at : ℕ) (vs : List ℕ) (k d : ℕ) → k < at → getD (sets l at vs) k d ≡ getD l k d
 sets-before l at [] k d h = refl
 sets-before l at (v ∷ vs) k d h =
     let ne : k ≢ at = λ e. omega arith in
     let h′ : k < suc at = omega arith in
     sets-before (set l at v) (suc at) vs k d h′ ∙ getD-set-other l at k v d ne
-
-pub sets-past : (l : List ℕ) (at : ℕ) (vs : List ℕ) (k d : ℕ) → at + length vs ≤ k → getD (sets l at vs) k d ≡ getD l k d
-sets-past l at [] k d h = refl
-sets-past l at (v ∷ vs) k d h =
-    let ne : k ≢ at = λ e. omega arith in
-    let h′ : suc at + length vs ≤ k = omega arith in
-    sets-past (set l at v) (suc at) vs k d h′ ∙ getD-set-other l at k v d ne
 
 -- what a run left, within it
 pub sets-in : (l : List ℕ) (at : ℕ) (vs : List ℕ) (i d : ℕ) → i < length vs → at + i < length l → getD (sets l at vs) (at + i) d ≡ getD vs i d
@@ -69,8 +77,8 @@ sets-in l at (v ∷ vs) (suc i) d h k =
     let k′ : suc at + i < length (set l at v) = simp length-set (omega arith) in
     rw (add-suc, ← suc-add) (sets-in (set l at v) (suc at) vs i d h′ k′)
 
--- a part's length, its elements, and one element more at either end
-length-part-le : (s : List ℕ) (from n : ℕ) → length (part s from n) ≤ n
+-- a part's length, and a part as two
+pub length-part-le : (s : List ℕ) (from n : ℕ) → length (part s from n) ≤ n
 length-part-le s from n = simp length-take (omega arith)
 
 pub length-part : (s : List ℕ) (from n : ℕ) → from + n ≤ length s → length (part s from n) ≡ n
@@ -81,8 +89,19 @@ part-next s from n h =
     let h′ : n < length (drop from s) = simp length-drop (omega arith) in
     rw (add-one, take-suc (drop from s) n 0 h′, getD-drop)
 
-part-prev : (s : List ℕ) (from n : ℕ) → from < length s → part s from (suc n) ≡ getD s from 0 ∷ part s (suc from) n
-part-prev s from n h = rw (drop-cons s from 0)
+pub part-append : (s : List ℕ) (from j k : ℕ) → part s from (j + k) ≡ part s from j ++ part s (from + j) k
+part-append s from j k = rw (take-add j k (drop from s), drop-drop j from s)
+
+-- what was laid from place 0 on is read back, and what is past it is as it was
+pub take-sets : (l vs : List ℕ) → length vs ≤ length l → take (length vs) (sets l 0 vs) ≡ vs
+take-sets l vs h =
+    let fits : 0 + length vs ≤ length l = omega arith in
+    rw (sets-eq vs l 0 fits) (take-append-seam vs (drop (0 + length vs) l))
+
+pub drop-sets : (l vs : List ℕ) → length vs ≤ length l → drop (length vs) (sets l 0 vs) ≡ drop (length vs) l
+drop-sets l vs h =
+    let fits : 0 + length vs ≤ length l = omega arith in
+    rw (sets-eq vs l 0 fits) (drop-append-seam vs (drop (0 + length vs) l) ∙ rw zero-add)
 
 -- ---- a turn of each loop
 
@@ -95,21 +114,6 @@ copied-next d at s from i h =
     let h′ : from + i ≤ length s = omega arith in
     rw part-next (sets-next d at i (part s from i) _ (length-part s from i h′))
 
--- downward, what is read is not yet written over
-pub moved-next : (s : List ℕ) (from to i : ℕ) → to ≤ from → from + i < length s
-    → set (moved s from to i) (to + i) (getD (moved s from to i) (from + i) 0) ≡ moved s from to (i + 1)
-moved-next s from to i h k =
-    let past : to + length (part s from i) ≤ from + i = omega (arith, length-part-le s from i) in
-    rw (sets-past s to (part s from i) (from + i) 0 past) (copied-next s to s from i k)
-
--- upward, from the last to the first: f, t and m are the places and the count after the turn, f⁺, t⁺ and m⁻ those before it
-pub moved-prev : (s : List ℕ) (f t m f⁺ t⁺ m⁻ : ℕ) → f⁺ ≡ suc f → t⁺ ≡ suc t → m ≡ suc m⁻ → f ≤ t → f < length s
-    → set (moved s f⁺ t⁺ m⁻) t (getD (moved s f⁺ t⁺ m⁻) f 0) ≡ moved s f t m
-moved-prev s f t m f⁺ t⁺ m⁻ ef et em h k =
-    let h′ : f < suc t = omega arith in
-    let t′ : t < suc t = omega arith in
-    rw (ef, et, em, part-prev, sets-before s (suc t) (part s (suc f) m⁻) f 0 h′, set-sets s t (getD s f 0) (suc t) (part s (suc f) m⁻) t′)
-
 pub filled-next : (s : List ℕ) (from i v : ℕ) → set (filled s from i v) (from + i) v ≡ filled s from (i + 1) v
 filled-next s from i v = rw (← replicate-append-replicate i 1 v) (sets-next s from i (replicate i v) v (length-replicate i v))
 
@@ -120,14 +124,3 @@ moved-eq s from to n h k =
     let e : length (part s from n) ≡ n = length-part s from n k in
     let fits : to + length (part s from n) ≤ length s = omega arith in
     rw e at (sets-eq {A = ℕ} (part s from n) s to fits)
-
--- what was laid from place 0 on is read back, and what is past it is as it was
-pub take-sets : (l vs : List ℕ) → length vs ≤ length l → take (length vs) (sets l 0 vs) ≡ vs
-take-sets l vs h =
-    let fits : 0 + length vs ≤ length l = omega arith in
-    rw (sets-eq vs l 0 fits) (take-append-seam vs (drop (0 + length vs) l))
-
-pub drop-sets : (l vs : List ℕ) → length vs ≤ length l → drop (length vs) (sets l 0 vs) ≡ drop (length vs) l
-drop-sets l vs h =
-    let fits : 0 + length vs ≤ length l = omega arith in
-    rw (sets-eq vs l 0 fits) (drop-append-seam vs (drop (0 + length vs) l) ∙ rw zero-add)

@@ -1,0 +1,17 @@
+-- `blocks::move_piece` meets its contract: what is written from the buffer is what was read into it.
+-- Assumes nothing.
+use native.Mathlib.Omega.{arith}
+use lib.ListN.{replicate}
+use borrow.Author.Needs.{needs}
+use Rattle.blocks.proofs.Pieces.{held}
+use Rattle.blocks.proofs.move_piece.Statement.{statement}
+use Rattle.blocks.proofs.move_piece.Tie as tie
+
+returns : tie.Need-returns
+returns c =
+    let read = c .before .before .before .before .before .before in
+    let a = read .before .before .before .before .args in
+    held (replicate 64 0) (a .s .now) (a .to) (a .s .now) (a .from) (a .k) (read .copy-bytes .ensures) (c .before .before .copy-bytes2 .ensures) (omega arith) (omega arith)
+
+pub move-piece-spec : {M : Type 1} → statement M
+move-piece-spec = tie.close (tie.spec (λ c. omega arith) (λ c κs. omega arith) (λ c. omega arith) (λ c κs. omega arith) (λ c. omega arith) returns)
