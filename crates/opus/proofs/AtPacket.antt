@@ -1,5 +1,5 @@
 -- A packet of frames that were read at a place.
---     packet-accepted, packet-refused     the packet by the verdict on its frames
+--     head-found, head-broken             the packet by what was read of its frames
 --     body-..                             code 3 behind its count byte
 --     three-..                            code 3: its count byte, and 120 ms counted in samples
 --     code-..                             a packet by its code
@@ -26,38 +26,45 @@ use Rattle.opus_toc.specs.Toc.{upperSix, configuration, duration, samples}
 use Rattle.opus_toc.proofs.Samples.{lasts-at}
 use Rattle.opus.specs.Frames.{total}
 use Rattle.opus.specs.Reading.{Rule, R2, R3, R4, R5, R6, R7, Front, broken, front, Fields, noFields, fields, readFields, behindFields, equal, readPadding, frames3, lasts, Reading, refused, accept, behindPadding, read3, readCode, read}
-use Rattle.opus.specs.Answers.{noPacket, packetOf, parsed}
-use Rattle.opus.specs.Parts.{framesAt, paddingAt, packetAt}
-use Rattle.opus.specs.declared.FramesAt.{FramesAt}
+use Rattle.opus.specs.Answers.{noPacket, packetOf, parsed, answerOf}
+use Rattle.opus.specs.Parts.{framesAt, framesLent, FramesRead, endOf, paddingAt, noHead, headAt}
+use Rattle.opus.specs.declared.frames_at.FramesAt.{FramesAt}
+use Rattle.opus.specs.declared.frames_at.FramesAt.the-variants.{At, Broken}
+use Rattle.opus.specs.declared.padding_at.PaddingAt.the-variants.{Whole, Unfit}
 use Rattle.opus.specs.declared.Packet.{Packet}
-use Rattle.opus.specs.declared.PaddingAt.the-variants.{Whole, Unfit}
+use Rattle.opus.specs.declared.PacketHead.{PacketHead}
 use Rattle.opus.proofs.AtFrames.{Within, unequal-within, equal-within, frames-within}
 use Rattle.opus.proofs.AtPadding.{Padded, padding-was}
 
-module _ (toc at pad : ℕ) (f : FramesAt) where
-  pub packet-accepted : f .verdict ≡ Accepted
-      → record { verdict = f .verdict; toc = toc; count = f .count; lengths = f .lengths; first = at + f .first; taken = at + f .first + f .total + pad } ≡ packetAt toc at pad f
-  packet-accepted e = rw e
+module _ (toc count at pad : ℕ) (f : FramesAt) where
+  pub head-found : (first sum : ℕ) → f ≡ At first sum
+      → record { verdict = Accepted; toc = toc; count = count; first = at + first; taken = at + first + sum + pad } ≡ headAt toc count at pad f
+  head-found first sum e = rw e
 
-  pub packet-refused : (e : Refusal) → f .verdict ≡ Refused e → noPacket e ≡ packetAt toc at pad f
-  packet-refused r e = rw e
+  pub head-broken : f ≡ Broken → noHead InvalidPacket ≡ headAt toc count at pad f
+  head-broken e = rw e
+
+pub end-found : (f : FramesAt) (first sum : ℕ) → f ≡ At first sum → endOf f ≡ first + sum
+end-found f first sum e = rw e
 
 -- m bytes are `at` bytes, n bytes in which the frames were read, and the padding
-packet-of : (m n toc at pad : ℕ) (f : Front) → Within n f → m ≡ at + n + pad → packetAt toc at pad (framesAt n f) ≡ packetOf (accept m toc pad f)
-packet-of m n toc at pad (broken r) w e = refl
-packet-of m n toc at pad (front ns t) w e = let first : m - pad - length t ≡ at + (n - length t) = omega arith in rw first
+packet-of : (m n toc count at pad : ℕ) (r : Front) (l : List ℕ) → Within n count r → framesLent r l → m ≡ at + n + pad → answerOf (headAt toc count at pad (framesAt n r)) l ≡ packetOf (accept m toc pad r)
+packet-of m n toc count at pad (broken r) l w g e = refl
+packet-of m n toc count at pad (front ns t) l w g e =
+    let first : m - pad - length t ≡ at + (n - length t) = omega arith in
+    rw (first, g, w .2)
 
-packet-fits : (m n at pad : ℕ) (f : Front) → Within n f → m ≡ at + n + pad → at + framesAt n f .first + framesAt n f .total + pad ≤ m
-packet-fits m n at pad (broken r) w e = omega arith
-packet-fits m n at pad (front ns t) w e = omega arith
+packet-fits : (m n count at pad : ℕ) (r : Front) → Within n count r → m ≡ at + n + pad → at + endOf (framesAt n r) + pad ≤ m
+packet-fits m n count at pad (broken r) w e = omega arith
+packet-fits m n count at pad (front ns t) w e = omega arith
 
--- the same of an answer f that is those frames
-module _ (m n toc at pad : ℕ) (r : Front) (w : Within n r) (e : m ≡ at + n + pad) (f : FramesAt) (g : f ≡ framesAt n r) where
-  answer-of : packetAt toc at pad f ≡ packetOf (accept m toc pad r)
-  answer-of = rw g (packet-of m n toc at pad r w e)
+-- the same of an answer f that is those frames, with their lengths in the array
+module _ (s : List ℕ) (m toc count at pad : ℕ) (r : Front) (w : Within (length s) count r) (e : m ≡ at + length s + pad) (f : FramesAt) (l : List ℕ) (g : FramesRead s r f l) where
+  answer-of : answerOf (headAt toc count at pad f) l ≡ packetOf (accept m toc pad r)
+  answer-of = rw (g .0) (packet-of m (length s) toc count at pad r l w (g .1) e)
 
-  answer-fits : at + f .first + f .total + pad ≤ m
-  answer-fits = rw g (packet-fits m n at pad r w e)
+  answer-fits : at + endOf f + pad ≤ m
+  answer-fits = rw (g .0) (packet-fits m (length s) count at pad r w e)
 
 -- ---- code 3 behind its count byte
 unfit-refused : (sd : Bool) (k m toc v count : ℕ) (f : Field) → paddingAt k f ≡ Unfit → noPacket InvalidPacket ≡ packetOf (behindPadding sd m toc v count f)
@@ -103,14 +110,14 @@ module _ (sd : Bool) (d : List ℕ) (count : ℕ) where
         let enough : ltb (length (drop (2 + next) d)) pad ≡ false = le-ltb (length (drop (2 + next) d)) pad (omega (arith, body-room, length-drop (2 + next) d)) in
         rw (was .means, drop-drop next 2 d, enough, left)
 
-    module _ (f : FramesAt) (g : f ≡ framesAt (length (part d (2 + next) (length d - pad))) (frames3 sd (getD d 1 0 / 128 % 2) count (part d (2 + next) (length d - pad)))) where
-      pub body-fits : 2 + next + f .first + f .total + pad ≤ length d
+    module _ (one : 1 ≤ count) (f : FramesAt) (l : List ℕ) (g : FramesRead (part d (2 + next) (length d - pad)) (frames3 sd (getD d 1 0 / 128 % 2) count (part d (2 + next) (length d - pad))) f l) where
+      pub body-fits : 2 + next + endOf f + pad ≤ length d
       unfolding inner
-      body-fits = answer-fits (length d) (length inner) (getD d 0 0) (2 + next) pad (frames3 sd (getD d 1 0 / 128 % 2) count inner) (frames-within inner sd (getD d 1 0 / 128 % 2) count) all-bytes f g
+      body-fits = answer-fits inner (length d) (getD d 0 0) count (2 + next) pad (frames3 sd (getD d 1 0 / 128 % 2) count inner) (frames-within inner count sd (getD d 1 0 / 128 % 2) one) all-bytes f l g
 
-      pub body-read : packetAt (getD d 0 0) (2 + next) pad f ≡ packetOf (body sd d count)
+      pub body-read : (h : PacketHead) → h ≡ headAt (getD d 0 0) count (2 + next) pad f → answerOf h l ≡ packetOf (body sd d count)
       unfolding inner
-      body-read = rw reads (answer-of (length d) (length inner) (getD d 0 0) (2 + next) pad (frames3 sd (getD d 1 0 / 128 % 2) count inner) (frames-within inner sd (getD d 1 0 / 128 % 2) count) all-bytes f g)
+      body-read h e = rw (e, reads) (answer-of inner (length d) (getD d 0 0) count (2 + next) pad (frames3 sd (getD d 1 0 / 128 % 2) count inner) (frames-within inner count sd (getD d 1 0 / 128 % 2) one) all-bytes f l g)
 
 -- ---- code 3
 -- a frame is at least 2.5 ms
@@ -165,7 +172,7 @@ module _ (m toc pad : ℕ) (q r : Rule) where
   equal-rule true count s = refl
 
 -- frames that were read behind the TOC byte, as r reads them from any list
-module _ (d : List ℕ) (h : 1 ≤ length d) (r : List ℕ → Front) (w : (s : List ℕ) → Within (length s) (r s)) where
+module _ (d : List ℕ) (h : 1 ≤ length d) (count : ℕ) (r : List ℕ → Front) (w : (s : List ℕ) → Within (length s) count (r s)) where
   rest : List ℕ
   rest = part d 1 (length d)
 
@@ -173,14 +180,14 @@ module _ (d : List ℕ) (h : 1 ≤ length d) (r : List ℕ → Front) (w : (s : 
   unfolding rest
   all-rest = rw (part-to-end d 1) (omega (arith, length-drop 1 d))
 
-  module _ (f : FramesAt) (g : f ≡ framesAt (length (part d 1 (length d))) (r (part d 1 (length d)))) where
-    rest-fits : 1 + f .first + f .total + 0 ≤ length d
+  module _ (f : FramesAt) (l : List ℕ) (g : FramesRead (part d 1 (length d)) (r (part d 1 (length d))) f l) where
+    rest-fits : 1 + endOf f + 0 ≤ length d
     unfolding rest
-    rest-fits = answer-fits (length d) (length rest) 0 1 0 (r rest) (w rest) all-rest f g
+    rest-fits = answer-fits rest (length d) 0 count 1 0 (r rest) (w rest) all-rest f l g
 
-    rest-read : packetAt (getD d 0 0) 1 0 f ≡ packetOf (accept (length d) (getD d 0 0) 0 (r (drop 1 d)))
+    rest-read : answerOf (headAt (getD d 0 0) count 1 0 f) l ≡ packetOf (accept (length d) (getD d 0 0) 0 (r (drop 1 d)))
     unfolding rest
-    rest-read = rw (part-to-end d 1) at (answer-of (length d) (length rest) (getD d 0 0) 1 0 (r rest) (w rest) all-rest f g)
+    rest-read = rw (part-to-end d 1) at (answer-of rest (length d) (getD d 0 0) count 1 0 (r rest) (w rest) all-rest f l g)
 
 -- a packet that is not empty is read by its code
 by-code : (sd : Bool) (d : List ℕ) → 1 ≤ length d → read sd d ≡ readCode sd (getD d 0 0 % 4) (length d) (getD d 0 0) (drop 1 d)
@@ -202,30 +209,31 @@ abbrev equalIn : Bool → List ℕ → Front
 equalIn sd s = equal sd R6 2 s
 
 module _ (sd : Bool) (d : List ℕ) (h : 1 ≤ length d) where
-  module _ (k : ℕ) (f : FramesAt) (g : f ≡ framesAt (length (part d 1 (length d))) (unequalIn sd k (part d 1 (length d)))) where
-    pub unequal-fits : 1 + f .first + f .total + 0 ≤ length d
-    unequal-fits = rest-fits d h (unequalIn sd k) (λ s. unequal-within s sd R7 k) f g
+  module _ (k count : ℕ) (c : k + 1 ≡ count) (f : FramesAt) (l : List ℕ) (g : FramesRead (part d 1 (length d)) (unequalIn sd k (part d 1 (length d))) f l) where
+    pub unequal-fits : 1 + endOf f + 0 ≤ length d
+    unequal-fits = rest-fits d h count (unequalIn sd k) (λ s. unequal-within s count sd R7 k c) f l g
 
     unequal-read : (r : Rule) → readCode sd (getD d 0 0 % 4) (length d) (getD d 0 0) (drop 1 d) ≡ accept (length d) (getD d 0 0) 0 (behindFields sd r (readFields k (drop 1 d)))
-        → packetAt (getD d 0 0) 1 0 f ≡ packetOf (read sd d)
+        → answerOf (headAt (getD d 0 0) count 1 0 f) l ≡ packetOf (read sd d)
     unequal-read r e =
-        rest-read d h (unequalIn sd k) (λ s. unequal-within s sd R7 k) f g
+        rest-read d h count (unequalIn sd k) (λ s. unequal-within s count sd R7 k c) f l g
         ∙ rw (by-code sd d h, e) (unequal-rule (length d) (getD d 0 0) 0 R7 r sd (readFields k (drop 1 d)))
 
-    pub code-0 : getD d 0 0 % 4 ≡ 0 → k ≡ 0 → packetAt (getD d 0 0) 1 0 f ≡ packetOf (read sd d)
-    code-0 e z = unequal-read R2 (rw (e, z))
+    module _ (x : PacketHead) (y : x ≡ headAt (getD d 0 0) count 1 0 f) where
+      pub code-0 : getD d 0 0 % 4 ≡ 0 → k ≡ 0 → answerOf x l ≡ packetOf (read sd d)
+      code-0 e z = rw y (unequal-read R2 (rw (e, z)))
 
-    pub code-2 : getD d 0 0 % 4 ≡ 2 → k ≡ 1 → packetAt (getD d 0 0) 1 0 f ≡ packetOf (read sd d)
-    code-2 e z = unequal-read R4 (rw (e, z))
+      pub code-2 : getD d 0 0 % 4 ≡ 2 → k ≡ 1 → answerOf x l ≡ packetOf (read sd d)
+      code-2 e z = rw y (unequal-read R4 (rw (e, z)))
 
-  module _ (f : FramesAt) (g : f ≡ framesAt (length (part d 1 (length d))) (equalIn sd (part d 1 (length d)))) where
-    pub equal-fits : 1 + f .first + f .total + 0 ≤ length d
-    equal-fits = rest-fits d h (equalIn sd) (λ s. equal-within s sd R6 2) f g
+  module _ (f : FramesAt) (l : List ℕ) (g : FramesRead (part d 1 (length d)) (equalIn sd (part d 1 (length d))) f l) where
+    pub equal-fits : 1 + endOf f + 0 ≤ length d
+    equal-fits = rest-fits d h 2 (equalIn sd) (λ s. equal-within s 2 sd R6) f l g
 
-    pub code-1 : getD d 0 0 % 4 ≡ 1 → packetAt (getD d 0 0) 1 0 f ≡ packetOf (read sd d)
-    code-1 e =
-        rest-read d h (equalIn sd) (λ s. equal-within s sd R6 2) f g
-        ∙ rw (by-code sd d h, e) (equal-rule (length d) (getD d 0 0) 0 R6 R3 sd 2 (drop 1 d))
+    pub code-1 : (x : PacketHead) → x ≡ headAt (getD d 0 0) 2 1 0 f → getD d 0 0 % 4 ≡ 1 → answerOf x l ≡ packetOf (read sd d)
+    code-1 x y e =
+        rw y (rest-read d h 2 (equalIn sd) (λ s. equal-within s 2 sd R6) f l g
+        ∙ rw (by-code sd d h, e) (equal-rule (length d) (getD d 0 0) 0 R6 R3 sd 2 (drop 1 d)))
 
   pub code-3 : (getD d 0 0 % 4 ≡ 0 → ⊥) → (getD d 0 0 % 4 ≡ 1 → ⊥) → (getD d 0 0 % 4 ≡ 2 → ⊥) → packetOf (read3 sd (length d) (getD d 0 0) (drop 1 d)) ≡ packetOf (read sd d)
   code-3 n₀ n₁ n₂ = rw (by-code sd d h, third sd (getD d 0 0 % 4) (length d) (getD d 0 0) (drop 1 d) n₀ n₁ n₂)

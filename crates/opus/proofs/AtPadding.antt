@@ -16,7 +16,7 @@ use Rattle.laws.proofs.Never.{never, by-test, cond-elim}
 use Rattle.opus_size.specs.Size.{Field, noField, field}
 use Rattle.opus.specs.Reading.{plus, readChain, readPadding}
 use Rattle.opus.specs.Parts.{paddingAt}
-use Rattle.opus.specs.declared.PaddingAt.the-variants.{Whole, Unfit}
+use Rattle.opus.specs.declared.padding_at.PaddingAt.the-variants.{Whole, Unfit}
 use Rattle.opus.proofs.AtSizes.{place-is}
 
 -- ---- a chain ends at a place of the slice, or not at all

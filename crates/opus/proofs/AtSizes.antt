@@ -1,4 +1,4 @@
--- Length fields at the front of a slice, as the code has them: 48 lengths with zeros behind them, and a place in the slice.
+-- Length fields at the front of a slice, as the code has them: a lent array of 48 lengths with zeros behind them, and a place in the slice.
 --     place-is                     a place, from what stands behind it
 --     padded-more, same-more       one length more in the array
 --     Sizes                        what the loop over the fields keeps, with a law for its start, a turn, and each of its ends
@@ -9,7 +9,6 @@ use native.Mathlib.Omega.{arith}
 use native.Mathlib.Nat.{sub-zero}
 use mathlib.Core.Path.{_≡_, refl, ap, _∙_}
 use mathlib.Core.List.{List, [], _∷_, _++_, append-assoc, append-nil}
-use mathlib.Core.Bool.{true, false}
 use lib.ListN.{length, drop, set, replicate, length-append, length-drop, length-replicate, replicate-append-replicate}
 use lib.Seq.{set-at}
 use Rattle.laws.proofs.Never.{never}
@@ -18,8 +17,8 @@ use Rattle.opus_size.proofs.At.{Read, nothing, something, read-at, Found}
 use Rattle.opus.specs.Frames.{total}
 use Rattle.opus.specs.Reading.{Fields, noFields, fields, before, readFields}
 use Rattle.opus.specs.Answers.{padded48}
-use Rattle.opus.specs.Parts.{sizesAt}
-use Rattle.opus.specs.declared.SizesAt.{SizesAt}
+use Rattle.opus.specs.Parts.{sizesAt, SizesRead}
+use Rattle.opus.specs.declared.sizes_at.SizesAt.the-variants.{All, Cut}
 use Rattle.opus.proofs.Frames.{total-snoc}
 
 -- a place, from what stands behind it
@@ -64,14 +63,14 @@ pub record Sizes (s : List ℕ) (k : ℕ) (lengths : List ℕ) (next sum i : ℕ
   pub rest : beforeAll done (readFields (k - i) (drop next s)) ≡ readFields k s
 
 module _ (s : List ℕ) (k : ℕ) where
-  pub sizes-start : Sizes s k (padded48 []) 0 0 0
-  sizes-start =
+  pub sizes-start : (lengths : List ℕ) → lengths ≡ padded48 [] → Sizes s k lengths 0 0 0
+  sizes-start lengths e =
       record {
         done = [];
         count = refl;
         most = omega arith;
         inside = omega arith;
-        filled = refl;
+        filled = e;
         summed = refl;
         small = omega arith;
         rest = rw (sub-zero, before-none);
@@ -94,13 +93,15 @@ module _ (s : List ℕ) (k : ℕ) where
           rest = rw before-more (rw (one-less h, f .means) at (z .rest));
         }
 
-    pub sizes-cut : i < k → readField (drop next s) ≡ noField → sizesAt (length s) noFields ≡ sizesAt (length s) (readFields k s)
-    sizes-cut h e = rw (← z .rest, one-less h, e)
+    -- the array is then whatever it is
+    pub sizes-cut : i < k → readField (drop next s) ≡ noField → (l : List ℕ) → SizesRead s (readFields k s) Cut l
+    sizes-cut h e l = (rw (← z .rest, one-less h, e), rw (← z .rest, one-less h, e) tt)
 
-    pub sizes-end : k ≤ i → record { whole = true; next = next; total = sum; lengths = lengths } ≡ sizesAt (length s) (readFields k s)
+    pub sizes-end : k ≤ i → SizesRead s (readFields k s) (All next sum) lengths
     sizes-end h =
         let none-left : k - i ≡ 0 = omega arith in
-        rw (← z .rest, none-left, append-nil, place-is s next (z .inside), ← z .filled, ← z .summed)
+        let all : readFields k s ≡ fields (z .done) (drop next s) = rw (← z .rest, none-left, append-nil) in
+        (rw (all, place-is s next (z .inside), ← z .summed), rw all (z .filled))
 
 -- ---- what is known of the fields afterwards
 pub data Placed (s : List ℕ) (k : ℕ) : Fields → Type 0 where
@@ -119,35 +120,35 @@ placed s (suc k) at h = go (placed s k) (read-at s at)
     go more (nothing r) = rw r nowhere
     go more (something n next l w r) = rw r (one-more n (more next w))
 
--- the lengths that were read and what stands behind their fields
-pub record Known (s : List ℕ) (k : ℕ) (f : SizesAt) : Type 0 where
+-- the lengths that were read, in the array, and what stands behind their fields
+pub record Known (s : List ℕ) (k next sum : ℕ) (lengths : List ℕ) : Type 0 where
   pub ns : List ℕ
   pub count : length ns ≡ k
-  pub inside : f .next ≤ length s
-  pub filled : f .lengths ≡ padded48 ns
-  pub summed : f .total ≡ total ns
-  pub means : readFields k s ≡ fields ns (drop (f .next) s)
+  pub inside : next ≤ length s
+  pub filled : lengths ≡ padded48 ns
+  pub summed : sum ≡ total ns
+  pub means : readFields k s ≡ fields ns (drop next s)
 
-module _ (s : List ℕ) (k : ℕ) (f : SizesAt) (e : f ≡ sizesAt (length s) (readFields k s)) where
-  pub known : f .whole ≡ true → Known s k f
-  known w = go (readFields k s) refl (placed s k 0 (omega arith))
+module _ (s : List ℕ) (k : ℕ) where
+  pub known : (next sum : ℕ) (lengths : List ℕ) → SizesRead s (readFields k s) (All next sum) lengths → Known s k next sum lengths
+  known next sum lengths e = go (readFields k s) refl (placed s k 0 (omega arith))
     where
-      go : (r : Fields) → readFields k s ≡ r → Placed s k r → Known s k f
-      go r q nowhere = never (let p = rw q at e in cc)
-      go r q (here ns next l h) =
-          let p = rw q at e in
-          let same : f .next ≡ next = ap (λ (x : SizesAt). x .next) p ∙ place-is s next h in
+      go : (r : Fields) → readFields k s ≡ r → Placed s k r → Known s k next sum lengths
+      go r q nowhere = never (let p = rw q at (e .0) in cc)
+      go r q (here ns next₂ l h) =
+          let p = rw (q, place-is s next₂ h) at (e .0) in
+          let same : next ≡ next₂ = cc in
           record {
             ns = ns;
             count = l;
             inside = omega arith;
-            filled = ap (λ (x : SizesAt). x .lengths) p;
-            summed = ap (λ (x : SizesAt). x .total) p;
+            filled = rw q at (e .1);
+            summed = cc;
             means = rw same q;
           }
 
-  pub none-known : f .whole ≡ false → readFields k s ≡ noFields
-  none-known w = go (readFields k s) refl
+  pub none-known : Cut ≡ sizesAt (length s) (readFields k s) → readFields k s ≡ noFields
+  none-known e = go (readFields k s) refl
     where
       go : (r : Fields) → readFields k s ≡ r → readFields k s ≡ noFields
       go noFields q = q

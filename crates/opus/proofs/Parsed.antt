@@ -16,9 +16,8 @@ use Rattle.opus_defines.specs.declared.Refusal.{Refusal}
 use Rattle.opus_defines.specs.declared.Refusal.the-variants.{InvalidPacket}
 use Rattle.opus_defines.specs.declared.Verdict.the-variants.{Accepted, Refused}
 use Rattle.opus.specs.Reading.{Rule, Reading, refused, accepted, read}
-use Rattle.opus.specs.Answers.{packetOf, parsed, answerOf}
+use Rattle.opus.specs.Answers.{packetOf, parsed}
 use Rattle.opus.specs.declared.Packet.{Packet}
-use Rattle.opus.specs.declared.PacketHead.{PacketHead}
 
 -- the lengths of the frames, as the code lends them
 abbrev pub lengthsOf : Packet → List ℕ
@@ -50,14 +49,3 @@ module _ (sd : Bool) (p : List ℕ) where
         go : r ≡ packetOf (read sd p) → (x : Reading) → read sd p ≡ x → (c ≡ InvalidPacket) × ((rule : Rule) × (read sd p ≡ refused rule))
         go f (refused rule) q = (let x = rw q at f in cc, (rule, q))
         go f (accepted toc ns first taken) q = never (let x = rw q at f in cc)
-
-abbrev headOf : Packet → PacketHead
-headOf r = record { verdict = r .verdict; toc = r .toc; count = r .count; first = r .first; taken = r .taken }
-
-pub answer-whole : (sd : Bool) (p : List ℕ) (r : Packet) → r ≡ parsed sd p → answerOf (headOf r) (r .lengths) ≡ parsed sd p
-unfolding parsed
-answer-whole sd p r e = rw e (by-test (ltb 65535 (length p)) (λ t. rw t refl) (λ t. rw t (go (read sd p))))
-  where
-    go : (x : Reading) → answerOf (headOf (packetOf x)) (packetOf x .lengths) ≡ packetOf x
-    go (refused rule) = refl
-    go (accepted toc ns first taken) = refl

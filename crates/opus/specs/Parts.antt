@@ -1,44 +1,67 @@
 -- What the parts of the reader answer: a reading of Reading.antt with places in a slice for what is left of a list.
--- Contracts of functions that are not public cite these; m is the length of the slice that was read.
+-- Contracts of functions that are not public cite these; m is the length of the slice that was read. A definition `..Lent` says what
+-- the lent array of lengths then holds: of a reading that failed, nothing. `..Read` says both of the slice s: the answer and the array.
 use Prim.Native.Nat.{ℕ, _+_, _-_}
-use mathlib.Core.List.{List, []}
-use mathlib.Core.Bool.{true, false, cond}
+use mathlib.Core.Path.{_≡_}
+use mathlib.Core.List.{List}
+use mathlib.Core.Bool.{cond}
 use lib.Dec.{ltb}
 use lib.ListN.{length}
+use Rattle.opus_defines.specs.declared.Refusal.{Refusal}
 use Rattle.opus_defines.specs.declared.Refusal.the-variants.{InvalidPacket}
-use Rattle.opus_defines.specs.declared.Verdict.{Verdict}
 use Rattle.opus_defines.specs.declared.Verdict.the-variants.{Accepted, Refused}
 use Rattle.opus_size.specs.Size.{Field, noField, field}
 use Rattle.opus.specs.Frames.{total}
 use Rattle.opus.specs.Reading.{Front, broken, front, Fields, noFields, fields}
-use Rattle.opus.specs.Answers.{padded48, noPacket}
-use Rattle.opus.specs.declared.SizesAt.{SizesAt}
-use Rattle.opus.specs.declared.FramesAt.{FramesAt}
-use Rattle.opus.specs.declared.PaddingAt.{PaddingAt}
-use Rattle.opus.specs.declared.PaddingAt.the-variants.{Whole, Unfit}
-use Rattle.opus.specs.declared.Packet.{Packet}
+use Rattle.opus.specs.Answers.{padded48}
+use Rattle.opus.specs.declared.sizes_at.SizesAt.{SizesAt}
+use Rattle.opus.specs.declared.sizes_at.SizesAt.the-variants.{All, Cut}
+use Rattle.opus.specs.declared.frames_at.FramesAt.{FramesAt}
+use Rattle.opus.specs.declared.frames_at.FramesAt.the-variants.{At, Broken}
+use Rattle.opus.specs.declared.padding_at.PaddingAt.{PaddingAt}
+use Rattle.opus.specs.declared.padding_at.PaddingAt.the-variants.{Whole, Unfit}
+use Rattle.opus.specs.declared.PacketHead.{PacketHead}
 
+-- ---- length fields
 abbrev pub sizesAt : ℕ → Fields → SizesAt
-sizesAt m noFields = record { whole = false; next = 0; total = 0; lengths = padded48 [] }
-sizesAt m (fields ns t) = record { whole = true; next = m - length t; total = total ns; lengths = padded48 ns }
+sizesAt m noFields = Cut
+sizesAt m (fields ns t) = All (m - length t) (total ns)
 
-abbrev pub noFrames : FramesAt
-noFrames = record { verdict = Refused InvalidPacket; count = 0; lengths = padded48 []; first = 0; total = 0 }
+abbrev pub sizesLent : Fields → List ℕ → Type 0
+sizesLent noFields l = Unit {0}
+sizesLent (fields ns t) l = l ≡ padded48 ns
 
+abbrev pub SizesRead : List ℕ → Fields → SizesAt → List ℕ → Type 0
+SizesRead s r f l = (f ≡ sizesAt (length s) r) × (sizesLent r l)
+
+-- ---- frames
 abbrev pub framesAt : ℕ → Front → FramesAt
-framesAt m (broken rule) = noFrames
-framesAt m (front ns t) = record { verdict = Accepted; count = length ns; lengths = padded48 ns; first = m - length t; total = total ns }
+framesAt m (broken rule) = Broken
+framesAt m (front ns t) = At (m - length t) (total ns)
 
--- padding that does not fit is refused with the chain
+abbrev pub framesLent : Front → List ℕ → Type 0
+framesLent (broken rule) l = Unit {0}
+framesLent (front ns t) l = l ≡ padded48 ns
+
+abbrev pub FramesRead : List ℕ → Front → FramesAt → List ℕ → Type 0
+FramesRead s r f l = (f ≡ framesAt (length s) r) × (framesLent r l)
+
+-- the place behind the frames
+abbrev pub endOf : FramesAt → ℕ
+endOf Broken = 0
+endOf (At first sum) = first + sum
+
+-- ---- padding: if it does not fit, it is refused with the chain
 abbrev pub paddingAt : ℕ → Field → PaddingAt
 paddingAt m noField = Unfit
 paddingAt m (field pad t) = cond (ltb (length t) pad) Unfit (Whole pad (m - length t))
 
--- the packet of frames that were read at a place, with this TOC byte and padding
-abbrev pub packetBy : ℕ → ℕ → ℕ → FramesAt → Verdict → Packet
-packetBy toc at pad f Accepted =
-    record { verdict = Accepted; toc = toc; count = f .count; lengths = f .lengths; first = at + f .first; taken = at + f .first + f .total + pad }
-packetBy toc at pad f (Refused e) = noPacket e
+-- ---- packets
+abbrev pub noHead : Refusal → PacketHead
+noHead e = record { verdict = Refused e; toc = 0; count = 0; first = 0; taken = 0 }
 
-abbrev pub packetAt : ℕ → ℕ → ℕ → FramesAt → Packet
-packetAt toc at pad f = packetBy toc at pad f (f .verdict)
+-- the packet of so many frames that were read at a place, with this TOC byte and padding
+abbrev pub headAt : ℕ → ℕ → ℕ → ℕ → FramesAt → PacketHead
+headAt toc count at pad Broken = noHead InvalidPacket
+headAt toc count at pad (At first sum) =
+    record { verdict = Accepted; toc = toc; count = count; first = at + first; taken = at + first + sum + pad }

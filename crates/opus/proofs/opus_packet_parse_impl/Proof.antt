@@ -1,33 +1,31 @@
--- `opus::opus_packet_parse_impl` meets its contract: by the tests on the length.
+-- `opus::opus_packet_parse_impl` meets its contract: by the verdict, with the array that was lent or with zeros.
 -- Assumes nothing.
-use mathlib.Core.Path.{_∙_}
+use mathlib.Core.Path.{refl, _∙_}
 use borrow.Author.Needs.{needs}
-use Rattle.opus.proofs.AtPacket.{parse-long, parse-empty, parse-read}
+use Rattle.opus.proofs.Lent.{lent-accepted, lent-refused}
 use Rattle.opus.proofs.opus_packet_parse_impl.Statement.{statement}
 use Rattle.opus.proofs.opus_packet_parse_impl.Tie as tie
 
 returns : tie.Need-returns
 returns c =
-    let a = c .before .before .before .args in
-    c .no-packet .ensures ∙ parse-long (a .self-delimited) (a .«data» .now) (c .before .if1 .taken)
+    let r = c .before .before .read-into in
+    let a = c .before .before .before .before .before .args in
+    lent-accepted (a .self-delimited) (a .«data» .now) (r .result) _ (r .ensures) (c .enum-told .given .1)
 
 returns-2 : tie.Need-returns-2
 returns-2 c =
-    let a = c .before .before .before .before .args in
-    c .no-packet2 .ensures ∙ parse-empty (a .self-delimited) (a .«data» .now) (c .before .if2 .taken)
-
-returns-3 : tie.Need-returns-3
-returns-3 c =
-    let a = c .before .before .before .before .args in
-    c .read-packet .ensures ∙ parse-read (a .self-delimited) (a .«data» .now) (c .before .before .if1 .left)
+    let b = c .before .before in
+    let r = b .before .before .read-into in
+    let a = b .before .before .before .before .before .args in
+    c .no-packet .ensures ∙ lent-refused (a .self-delimited) (a .«data» .now) (r .result) _ (r .ensures) _ (b .v .given .1)
 
 pub opus-packet-parse-impl-spec : {M : Type 1} → statement M
 opus-packet-parse-impl-spec =
     tie.close
     (tie.spec
+    (λ c κs. refl)
+    (λ c. search needs)
+    (λ c. search needs)
     (λ c κs. search needs)
     returns
-    (λ c κs. search needs)
-    returns-2
-    (λ c κs. search needs)
-    returns-3)
+    returns-2)

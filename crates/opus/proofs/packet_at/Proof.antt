@@ -1,19 +1,36 @@
--- `opus::packet_at` meets its contract: by the verdict on the frames.
+-- `opus::packet_at` meets its contract: by what was read of the frames.
 -- Assumes nothing.
-use mathlib.Core.Path.{_∙_}
+use Prim.Native.Nat.{_+_}
+use mathlib.Core.Path.{_≡_, _∙_}
+use native.Mathlib.Omega.{arith}
 use borrow.Author.Needs.{needs}
-use Rattle.opus.proofs.AtPacket.{packet-accepted, packet-refused}
+use Rattle.opus.specs.Parts.{endOf}
+use Rattle.opus.proofs.AtPacket.{head-found, head-broken, end-found}
 use Rattle.opus.proofs.packet_at.Statement.{statement}
 use Rattle.opus.proofs.packet_at.Tie as tie
 
 returns : tie.Need-returns
-returns c = let a = c .before .before .before .before .before .args in packet-accepted _ _ _ (a .f) (c .before .before .before .enum-told .given .1)
+returns c =
+    let a = c .before .before .before .args in
+    c .no-head .ensures ∙ head-broken (a .toc) (a .count) (a .at) (a .pad) (a .f) (c .before .enum-told .given .1)
+
+-- the frames end where the contract's bound says
+ends : (c : tie.After-known-told) → endOf (c .before .before .before .args .f) ≡ c .before .f .given .0 .0 + c .before .f .given .0 .1 .0
+ends c = end-found (c .before .before .before .args .f) _ _ (c .before .f .given .1)
+
+add-first : tie.Need-add-first
+add-first c = omega (arith, ends c, c .before .before .before .pre)
+
+add-t11 : tie.Need-add-t11
+add-t11 c = omega (arith, ends c, c .before .before .before .pre)
+
+add-t12 : tie.Need-add-t12
+add-t12 c = omega (arith, ends c, c .before .before .before .pre)
 
 returns-2 : tie.Need-returns-2
 returns-2 c =
-    let b = c .before .before in
-    let a = b .before .before .args in
-    c .no-packet .ensures ∙ packet-refused (a .toc) (a .at) (a .pad) (a .f) _ (b .v .given .1)
+    let a = c .before .before .before .args in
+    head-found (a .toc) (a .count) (a .at) (a .pad) (a .f) _ _ (c .before .f .given .1)
 
 pub packet-at-spec : {M : Type 1} → statement M
 packet-at-spec =
@@ -21,9 +38,9 @@ packet-at-spec =
     (tie.spec
     (λ c. search needs)
     (λ c. search needs)
-    (λ c. search needs)
-    (λ c. search needs)
-    (λ c. search needs)
     (λ c κs. search needs)
     returns
+    add-first
+    add-t11
+    add-t12
     returns-2)

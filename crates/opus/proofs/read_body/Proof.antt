@@ -6,6 +6,7 @@ use native.Mathlib.Omega.{arith}
 use borrow.Author.Needs.{needs}
 use lib.ListN.{length}
 use Rattle.opus.proofs.AtPacket.{body-unfit, body-room, body-fits, body-read}
+use Rattle.opus.proofs.Lent.{none-answered}
 use Rattle.opus.proofs.read_body.Statement.{statement}
 use Rattle.opus.proofs.read_body.Tie as tie
 
@@ -13,17 +14,18 @@ returns : tie.Need-returns
 returns c =
     let b = c .before .before .before in
     let a = b .before .before .before .before .args in
-    c .no-packet .ensures ∙ body-unfit (a .self-delimited) (a .«data» .now) (a .count) (sym (b .read-padding .ensures) ∙ c .before .enum-told .given .1)
+    none-answered _ _ _ (c .no-head .ensures)
+    ∙ body-unfit (a .self-delimited) (a .«data» .now) (a .count) (sym (b .read-padding .ensures) ∙ c .before .enum-told .given .1)
 
 -- the padding lengths and the padding lie within the packet
 room : (c : tie.After-known-told) → 2 + c .before .padding .given .0 .1 .0 + c .before .padding .given .0 .0 ≤ length (c .before .before .before .before .before .before .before .args .«data» .now)
 room c =
     let b = c .before .before .before in
     let s = b .before .before .before .before in
-    body-room (s .args .self-delimited) (s .args .«data» .now) (s .args .count) (s .pre .0) _ _ (sym (b .read-padding .ensures) ∙ c .before .padding .given .1)
+    body-room (s .args .self-delimited) (s .args .«data» .now) (s .args .count) (s .pre .0 .0) _ _ (sym (b .read-padding .ensures) ∙ c .before .padding .given .1)
 
 add-at : tie.Need-add-at
-add-at c = omega (arith, room c, c .before .before .before .before .before .before .before .pre)
+add-at c = omega (arith, room c, c .before .before .before .before .before .before .before .pre .0)
 
 sub-end : tie.Need-sub-end
 sub-end c = omega (arith, room c)
@@ -33,24 +35,24 @@ sub-frames-3 c = omega (arith, room c)
 
 packet-at-requires : tie.Need-packet-at-requires
 packet-at-requires c κs =
-    let k = c .before .before .before in
+    let k = c .before .before .before .before in
     let b = k .before .before .before in
     let s = b .before .before .before .before in
     omega (
       arith,
-      s .pre,
-      body-fits (s .args .self-delimited) (s .args .«data» .now) (s .args .count) (s .pre .0) (k .before .padding .given .0 .0) (k .before .padding .given .0 .1 .0)
-          (sym (b .read-padding .ensures) ∙ k .before .padding .given .1) (c .before .frames-3 .result) (c .before .frames-3 .ensures),
+      s .pre .0,
+      body-fits (s .args .self-delimited) (s .args .«data» .now) (s .args .count) (s .pre .0 .0) (k .before .padding .given .0 .0) (k .before .padding .given .0 .1 .0)
+          (sym (b .read-padding .ensures) ∙ k .before .padding .given .1) (s .pre .0 .2) (c .before .frames-3 .result) _ (c .before .frames-3 .ensures),
     )
 
 returns-2 : tie.Need-returns-2
 returns-2 c =
-    let k = c .before .before .before .before in
+    let k = c .before .before .before .before .before in
     let b = k .before .before .before in
     let s = b .before .before .before .before in
-    c .packet-at .ensures
-    ∙ body-read (s .args .self-delimited) (s .args .«data» .now) (s .args .count) (s .pre .0) (k .before .padding .given .0 .0) (k .before .padding .given .0 .1 .0)
-    (sym (b .read-padding .ensures) ∙ k .before .padding .given .1) (c .before .before .frames-3 .result) (c .before .before .frames-3 .ensures)
+    let f = c .before .before .frames-3 in
+    body-read (s .args .self-delimited) (s .args .«data» .now) (s .args .count) (s .pre .0 .0) (k .before .padding .given .0 .0) (k .before .padding .given .0 .1 .0)
+    (sym (b .read-padding .ensures) ∙ k .before .padding .given .1) (s .pre .0 .2) (f .result) _ (f .ensures) (c .packet-at .result) (c .packet-at .ensures)
 
 pub read-body-spec : {M : Type 1} → statement M
 read-body-spec =

@@ -7,44 +7,51 @@ use Rattle.opus.proofs.AtPacket.{unequal-fits, equal-fits, code-0, code
 use Rattle.opus.proofs.read_packet.Statement.{statement}
 use Rattle.opus.proofs.read_packet.Tie as tie
 
-packet-at-requires : tie.Need-packet-at-requires
-packet-at-requires c κs =
-    let s = c .before .before .before .before .before in
-    omega (arith, s .pre, unequal-fits (s .args .self-delimited) (s .args .«data» .now) (s .pre .0) 0 (c .unequal-frames .result) (c .unequal-frames .ensures))
+behind-toc-requires : tie.Need-behind-toc-requires
+behind-toc-requires c κs =
+    let s = c .before .before .before .before .before .before in
+    let f = c .unequal-frames in
+    omega (arith, s .pre .0, unequal-fits (s .args .self-delimited) (s .args .«data» .now) (s .pre .0 .0) 0 1 refl (f .result) _ (f .ensures))
 
-packet-at-requires-2 : tie.Need-packet-at-requires-2
-packet-at-requires-2 c κs =
-    let s = c .before .before .before .before .before in
-    omega (arith, s .pre, equal-fits (s .args .self-delimited) (s .args .«data» .now) (s .pre .0) (c .equal-frames .result) (c .equal-frames .ensures))
+behind-toc-requires-2 : tie.Need-behind-toc-requires-2
+behind-toc-requires-2 c κs =
+    let s = c .before .before .before .before .before .before in
+    let f = c .equal-frames in
+    omega (arith, s .pre .0, equal-fits (s .args .self-delimited) (s .args .«data» .now) (s .pre .0 .0) (f .result) _ (f .ensures))
 
-packet-at-requires-3 : tie.Need-packet-at-requires-3
-packet-at-requires-3 c κs =
-    let s = c .before .before .before .before .before in
-    omega (arith, s .pre, unequal-fits (s .args .self-delimited) (s .args .«data» .now) (s .pre .0) 1 (c .unequal-frames2 .result) (c .unequal-frames2 .ensures))
+behind-toc-requires-3 : tie.Need-behind-toc-requires-3
+behind-toc-requires-3 c κs =
+    let s = c .before .before .before .before .before .before in
+    let f = c .unequal-frames2 in
+    omega (arith, s .pre .0, unequal-fits (s .args .self-delimited) (s .args .«data» .now) (s .pre .0 .0) 1 2 refl (f .result) _ (f .ensures))
 
 returns : tie.Need-returns
 returns c =
-    let s = c .before .before .before .before .before .before in
-    c .packet-at .ensures
-    ∙ code-0 (s .args .self-delimited) (s .args .«data» .now) (s .pre .0) 0 (c .before .unequal-frames .result) (c .before .unequal-frames .ensures) (c .before .before .match .keys1) refl
+    let m = c .before .before .before in
+    let s = m .before .before .before .before in
+    let f = c .before .unequal-frames in
+    code-0 (s .args .self-delimited) (s .args .«data» .now) (s .pre .0 .0) 0 1 refl (f .result) _ (f .ensures) (c .behind-toc .result) (c .behind-toc .ensures) (m .match .keys1) refl
 
 returns-2 : tie.Need-returns-2
 returns-2 c =
-    let s = c .before .before .before .before .before .before in
-    c .packet-at2 .ensures
-    ∙ code-1 (s .args .self-delimited) (s .args .«data» .now) (s .pre .0) (c .before .equal-frames .result) (c .before .equal-frames .ensures) (c .before .before .match .keys2)
+    let m = c .before .before .before in
+    let s = m .before .before .before .before in
+    let f = c .before .equal-frames in
+    code-1 (s .args .self-delimited) (s .args .«data» .now) (s .pre .0 .0) (f .result) _ (f .ensures) (c .behind-toc2 .result) (c .behind-toc2 .ensures) (m .match .keys2)
 
 returns-3 : tie.Need-returns-3
 returns-3 c =
-    let s = c .before .before .before .before .before .before in
-    c .packet-at3 .ensures
-    ∙ code-2 (s .args .self-delimited) (s .args .«data» .now) (s .pre .0) 1 (c .before .unequal-frames2 .result) (c .before .unequal-frames2 .ensures) (c .before .before .match .keys3) refl
+    let m = c .before .before .before in
+    let s = m .before .before .before .before in
+    let f = c .before .unequal-frames2 in
+    code-2 (s .args .self-delimited) (s .args .«data» .now) (s .pre .0 .0) 1 2 refl (f .result) _ (f .ensures) (c .behind-toc3 .result) (c .behind-toc3 .ensures) (m .match .keys3) refl
 
 returns-4 : tie.Need-returns-4
 returns-4 c =
-    let s = c .before .before .before .before .before in
-    let r = c .before .match .rest in
-    c .read-3 .ensures ∙ code-3 (s .args .self-delimited) (s .args .«data» .now) (s .pre .0) (r .0 .0 .1) (r .0 .1) (r .1)
+    let m = c .before .before in
+    let s = m .before .before .before .before in
+    let r = m .match .rest in
+    c .read-3 .ensures ∙ code-3 (s .args .self-delimited) (s .args .«data» .now) (s .pre .0 .0) (r .0 .0 .1) (r .0 .1) (r .1)
 
 pub read-packet-spec : {M : Type 1} → statement M
 read-packet-spec =
@@ -55,11 +62,11 @@ read-packet-spec =
     (λ c. search needs)
     (λ c. search needs)
     (λ c κs. search needs)
-    packet-at-requires
+    behind-toc-requires
     (λ c κs. search needs)
-    packet-at-requires-2
+    behind-toc-requires-2
     (λ c κs. search needs)
-    packet-at-requires-3
+    behind-toc-requires-3
     (λ c κs. search needs)
     returns
     returns-2

@@ -1,13 +1,13 @@
--- `opus::read_sizes` meets its contract. The invariant: the array is the lengths read so far, and they with the fields from here on are
--- all the fields.
+-- `opus::sizes_at::read_sizes` meets its contract. The invariant: the array is the lengths read so far, and they with the fields from
+-- here on are all the fields.
 -- Assumes nothing.
 use Prim.Native.Nat.{_-_}
 use mathlib.Core.Path.{sym, _∙_}
 use borrow.Author.Needs.{needs}
 use Rattle.opus_size.proofs.At.{whole-was, short-was}
 use Rattle.opus.proofs.AtSizes.{Sizes, sizes-start, sizes-more, sizes-cut, sizes-end}
-use Rattle.opus.proofs.read_sizes.Statement.{statement}
-use Rattle.opus.proofs.read_sizes.Tie as tie
+use Rattle.opus.proofs.sizes_at.read_sizes.Statement.{statement}
+use Rattle.opus.proofs.sizes_at.read_sizes.Tie as tie
 
 abbrev Inv-loop : tie.InvT-loop
 Inv-loop s k lengths₀ next₀ total₀ i₀ lengths next total i = Sizes s k lengths next total i
@@ -16,12 +16,12 @@ abbrev μ-loop : tie.MeasureT-loop
 μ-loop s k lengths₀ next₀ total₀ i₀ lengths next total i = k - i
 
 loop-holds : tie.Need-loop-holds Inv-loop μ-loop
-loop-holds c = sizes-start _ _
+loop-holds c = sizes-start _ _ _ (c .before .pre .1)
 
 returns : tie.Need-returns Inv-loop μ-loop
 returns c =
     let l = c .before .before .before .before .loop in
-    sizes-cut _ _ _ _ _ _ (l .inv) (search needs) (short-was _ _ (sym (c .before .before .size-at .ensures) ∙ c .enum-told .given .1))
+    sizes-cut _ _ _ _ _ _ (l .inv) (search needs) (short-was _ _ (sym (c .before .before .size-at .ensures) ∙ c .enum-told .given .1)) _
 
 loop-again : tie.Need-loop-again Inv-loop μ-loop
 loop-again c =

@@ -1,10 +1,10 @@
--- `opus::read_padding` meets its contract: by the padding flag.
+-- `opus::padding_at::read_padding` meets its contract: by the padding flag.
 -- Assumes nothing.
 use mathlib.Core.Path.{_∙_}
 use borrow.Author.Needs.{needs}
 use Rattle.opus.proofs.AtPadding.{unpadded-at, padded-at}
-use Rattle.opus.proofs.read_padding.Statement.{statement}
-use Rattle.opus.proofs.read_padding.Tie as tie
+use Rattle.opus.proofs.padding_at.read_padding.Statement.{statement}
+use Rattle.opus.proofs.padding_at.read_padding.Tie as tie
 
 returns : tie.Need-returns
 returns c = let a = c .before .before .args in unpadded-at _ (a .s .now) (c .if1 .taken)

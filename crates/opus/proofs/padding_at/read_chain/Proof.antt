@@ -1,11 +1,11 @@
--- `opus::read_chain` meets its contract. The invariant: the padding so far with the chain from here on is the whole chain, and it fits.
+-- `opus::padding_at::read_chain` meets its contract. The invariant: the padding so far with the chain from here on is the whole chain, and it fits.
 -- Assumes nothing.
 use Prim.Native.Nat.{_-_}
 use borrow.Author.Needs.{needs}
 use lib.ListN.{length}
 use Rattle.opus.proofs.AtPadding.{Chain, chain-start, chain-end, chain-unfit, chain-whole, chain-over, chain-more}
-use Rattle.opus.proofs.read_chain.Statement.{statement}
-use Rattle.opus.proofs.read_chain.Tie as tie
+use Rattle.opus.proofs.padding_at.read_chain.Statement.{statement}
+use Rattle.opus.proofs.padding_at.read_chain.Tie as tie
 
 abbrev Inv-loop : tie.InvT-loop
 Inv-loop s pad₀ at₀ pad at = Chain s pad at

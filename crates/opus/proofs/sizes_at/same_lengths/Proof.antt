@@ -1,14 +1,14 @@
--- `opus::same_lengths` meets its contract. The invariant: the array is the length i times, and zeros.
+-- `opus::sizes_at::same_lengths` meets its contract. The invariant: the array is the length i times, and zeros.
 -- Assumes nothing.
 use Prim.Native.Nat.{_-_, _≤_}
-use mathlib.Core.Path.{_≡_, refl}
+use mathlib.Core.Path.{_≡_}
 use native.Mathlib.Omega.{arith}
 use borrow.Author.Needs.{needs}
 use lib.ListN.{replicate}
 use Rattle.opus.specs.Answers.{padded48}
 use Rattle.opus.proofs.AtSizes.{same-more}
-use Rattle.opus.proofs.same_lengths.Statement.{statement}
-use Rattle.opus.proofs.same_lengths.Tie as tie
+use Rattle.opus.proofs.sizes_at.same_lengths.Statement.{statement}
+use Rattle.opus.proofs.sizes_at.same_lengths.Tie as tie
 
 abbrev Inv-loop : tie.InvT-loop
 Inv-loop count n lengths₀ i₀ lengths i = (i ≤ count) × (lengths ≡ padded48 (replicate i n))
@@ -17,7 +17,7 @@ abbrev μ-loop : tie.MeasureT-loop
 μ-loop count n lengths₀ i₀ lengths i = count - i
 
 loop-holds : tie.Need-loop-holds Inv-loop μ-loop
-loop-holds c = (search needs, refl)
+loop-holds c = (search needs, c .pre .1)
 
 loop-again : tie.Need-loop-again Inv-loop μ-loop
 loop-again c =
