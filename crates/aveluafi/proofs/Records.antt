@@ -2,7 +2,7 @@
 --     size-few                     the bytes used are a small number
 --     size-passed, rate-passed     a call is passed the bits of a signed number
 --     read-few, record-read, ..    a packet that was read, by its verdict
---     record-accepted, ..          an add, by its verdict
+--     record-added                 an add, where the collector's lengths were lent
 -- Assumes nothing.
 use Prim.Native.Nat.{ℕ, _-_, _≤_}
 use native.Mathlib.Omega.{arith}
@@ -17,7 +17,7 @@ use mir.Val.{toZ, ofZ, SFits}
 use mir.ValLaws.{toZ-ofZ}
 use Rattle.laws.specs.Bytes.{Bytes}
 use Rattle.laws.proofs.Never.{never, by-test}
-use Rattle.opus_defines.specs.Numbers.{refusalNumber}
+use Rattle.opus_defines.specs.Numbers.{verdictNumber}
 use Rattle.opus_defines.specs.declared.Refusal.{Refusal}
 use Rattle.opus_defines.specs.declared.Refusal.the-variants.{BadArg}
 use Rattle.opus_defines.specs.declared.Verdict.the-variants.{Accepted, Refused}
@@ -31,12 +31,10 @@ use Rattle.opus.specs.declared.Packet.{Packet}
 use Rattle.opus.specs.declared.PacketHead.{PacketHead}
 use Rattle.opus.proofs.Lent.{lent-accepted}
 use Rattle.opus.proofs.Facts.{facts}
-use Rattle.repacketizer.specs.Adding.{added}
-use Rattle.repacketizer.specs.declared.OpusRepacketizer.{OpusRepacketizer}
+use Rattle.repacketizer.specs.Parts.{addedOf}
 use Rattle.repacketizer.specs.declared.Added.{Added}
-use Rattle.repacketizer.proofs.Adds.{ends, refused-same}
+use Rattle.repacketizer.specs.declared.AddedHead.{AddedHead}
 use Rattle.aveluafi.specs.Records.{packetRecord, addRecord}
-use Rattle.aveluafi.specs.declared.collector.AddRecord.{AddRecord}
 
 -- ---- a packet that was read, with its lengths in the array l
 few : (sd : Bool) (p : List ℕ) → Bytes p → parsed sd p .count ≤ 48
@@ -93,16 +91,6 @@ size-passed size s f = rw (toZ-ofZ w32 size f)
 pub rate-passed : (s : List ℕ) (rate : ℤ) → SFits w32 rate → samplesPerFrame s (toZ w32 (ofZ w32 rate)) ≡ samplesPerFrame s rate
 rate-passed s rate f = rw (toZ-ofZ w32 rate f)
 
--- ---- an add, by its verdict
-abbrev answered : ℤ → OpusRepacketizer → AddRecord
-answered n rp = record { number = n; rp = rp }
-
-pub record-accepted : (a : Added) → a .verdict ≡ Accepted → answered (pos 0) (a .rp) ≡ addRecord a
-record-accepted a v = rw v
-
--- on a refusal it is the collector that was handed in
-pub record-refused : (sd : Bool) (rp : OpusRepacketizer) (p store : List ℕ) {a : Added} {e : Refusal} → a ≡ added sd rp p store .answer → a .verdict ≡ Refused e → answered (refusalNumber e) rp ≡ addRecord (added sd rp p store .answer)
-record-refused sd rp p store {a} {e} is v =
-    let q : added sd rp p store .answer .verdict ≡ Refused e = rw is at v in
-    let same = refused-same (ends sd rp p store) q .0 in
-    rw (q, same)
+-- ---- an add, where the collector's lengths were lent
+pub record-added : (r : AddedHead) (len : List ℕ) {a : Added} → addedOf r len ≡ a → {n : ℤ} → n ≡ verdictNumber (pos 0) (r .verdict) → record { number = n; rp = addedOf r len .rp } ≡ addRecord a
+record-added r len e m = rw m (ap addRecord e)

@@ -7,7 +7,6 @@ ghost use Rattle.repacketizer.specs.Collector.{empty, nbFramesHeld};
 ghost use Rattle.repacketizer.specs.Adding.{addedNumber, added};
 ghost use Rattle.repacketizer_out.specs.Output.{outRange, outAll};
 ghost use Rattle.aveluafi.specs.Records.{addRecord};
-use opus_defines::Verdict;
 use repacketizer::OpusRepacketizer;
 
 // What an add hands back: its number, and the collector.
@@ -29,18 +28,19 @@ pub fn cat(rp: OpusRepacketizer, data: &[u8], store: &mut [u8]) -> AddRecord
     ensures { λ r. ⌜ (r ≡ addRecord (added false rp (now («data» .entry)) (now (store .entry)) .answer))
         × (now (store .exit) ≡ added false rp (now («data» .entry)) (now (store .entry)) .store) ⌝ }
 {
-    let a = repacketizer::opus_repacketizer_cat(rp, data, store);
-    let next = a.rp;
+    let mut len = rp.len;
+    let a = repacketizer::add(repacketizer::head_of(rp), &mut len, data, false, store);
+    let framesize = a.framesize;
     let v = a.verdict;
-    let Verdict::Refused(e) = v else {
-        return AddRecord {
-            number: 0,
-            rp: next,
-        };
-    };
+    let number = opus_defines::verdict_number(0, v);
     AddRecord {
-        number: opus_defines::refusal_number(e),
-        rp: rp,
+        number,
+        rp: OpusRepacketizer {
+            toc: a.toc,
+            nb_frames: a.count as u16,
+            framesize,
+            len,
+        },
     }
 }
 

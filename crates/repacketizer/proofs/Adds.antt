@@ -1,11 +1,12 @@
 -- How an add goes, by the tests of the code.
 --     goes-none, goes-other, goes-time      whether frames go with those held
 --     with-few, with-timed, with-room       those held and the new ones last at most 120 ms, so they are at most 48 and fit the store
---     with-first, with-more                 the new collector
+--     refused-head, more-..                 what an add answers beside the lengths
 --     block-.., add-..                      an add by each of its tests
 --     Ends, ends, refused-same              the two ways in which an add ends
 -- Assumes nothing.
 use Prim.Native.Nat.{ℕ, _+_, _*_, _≤_, _<_}
+use native.Mathlib.Nat.{zero-add}
 use native.Mathlib.Omega.{arith}
 use mathlib.Core.Path.{_≡_, refl, sym, _∙_}
 use mathlib.Core.List.{List}
@@ -28,9 +29,11 @@ use Rattle.opus.specs.Reading.{Reading, refused, accepted, read}
 use Rattle.opus.proofs.Counts.{lasts-few}
 use Rattle.blocks.specs.Blocks.{copied}
 use Rattle.repacketizer.specs.declared.OpusRepacketizer.{OpusRepacketizer}
-use Rattle.repacketizer.specs.declared.Added.{Added}
+use Rattle.repacketizer.specs.declared.Head.{Head}
+use Rattle.repacketizer.specs.declared.AddedHead.{AddedHead}
 use Rattle.repacketizer.specs.Collector.{heldLengths, leastStore, sound}
-use Rattle.repacketizer.specs.Adding.{Adding, refusedAdd, noAdd, goesWith, withFrames, addBlock, addRead, addPacket, added}
+use Rattle.repacketizer.specs.Adding.{Adding, noAdd, goesWith, withFrames, addBlock, addRead, addPacket, added}
+use Rattle.repacketizer.specs.Parts.{collectorOf, refusedHead, moreFrames, addedOf}
 use Rattle.opus.proofs.Lengths.{total-most}
 use Rattle.repacketizer.proofs.Held.{holding}
 use Rattle.repacketizer.proofs.Sound.{Timed, timed-lasts, lasts-timed, none-sound, sound-full}
@@ -71,13 +74,17 @@ module _ (rp : OpusRepacketizer) (toc : ℕ) (ns : List ℕ) (s : sound rp ≡ t
       let w = holding rp b l s in
       omega (arith, total-most (heldLengths rp) (w .small), total-most ns m, w .count, with-few b h)
 
--- ---- the new collector
-module _ (rp : OpusRepacketizer) (toc : ℕ) (ns : List ℕ) (at : ℕ) (all : List ℕ) (a : at ≡ rp .«nb_frames») (l : all ≡ sets (rp .len) at ns) where
-  pub with-first : rp .«nb_frames» ≡ 0 → (each : Samples8k) → each .0 ≡ samples 8000 (configuration toc) → record { toc = toc; «nb_frames» = at + length ns; framesize = each; len = all } ≡ withFrames rp toc ns
-  with-first z each e = rw (eq-eqb (rp .«nb_frames») 0 z, ← e, l, a)
+-- ---- what an add answers beside the lengths
+module _ (h : Head) (count : ℕ) (e : count ≡ h .«nb_frames») where
+  pub refused-head : (c : Refusal) → record { verdict = Refused c; toc = h .toc; framesize = h .framesize; count = count } ≡ refusedHead c h
+  refused-head c = rw e
 
-  pub with-more : (rp .«nb_frames» ≡ 0 → ⊥) → record { toc = rp .toc; «nb_frames» = at + length ns; framesize = rp .framesize; len = all } ≡ withFrames rp toc ns
-  with-more z = rw (ne-eqb (rp .«nb_frames») 0 z, l, a)
+  module _ (toc n : ℕ) where
+    pub more-first : count ≡ 0 → (each : Samples8k) → each .0 ≡ samples 8000 (configuration toc) → record { verdict = Accepted; toc = toc; framesize = each; count = n } ≡ moreFrames h toc n
+    more-first z each s = rw (eq-eqb (h .«nb_frames») 0 (sym e ∙ z), ← s, ← e, z, zero-add)
+
+    pub more-later : (count ≡ 0 → ⊥) → record { verdict = Accepted; toc = h .toc; framesize = h .framesize; count = count + n } ≡ moreFrames h toc n
+    more-later z = rw (ne-eqb (h .«nb_frames») 0 (λ y. z (e ∙ y)), e)
 
 -- ---- an add by its tests
 -- frames that are added
@@ -97,10 +104,11 @@ module _ (rp : OpusRepacketizer) (toc : ℕ) (ns p : List ℕ) (first : ℕ) (st
   unfolding addBlock
   block-added g = rw g
 
-  -- as the code makes it, with the places that it found
-  pub block-as : goesWith rp toc (length ns) ≡ true → (at n : ℕ) (new : OpusRepacketizer) (left : List ℕ) → at ≡ total (heldLengths rp) → n ≡ total ns → new ≡ withFrames rp toc ns → left ≡ copied store at p first n
-      → (record { verdict = Accepted; rp = new } ≡ addBlock rp toc ns p first store .answer) × (left ≡ addBlock rp toc ns p first store .store)
-  block-as g at n new left a b w l = rw (block-added g, ← a, ← b, ← w) (refl, l)
+-- as the code makes it, with the places that it found
+pub block-as : (h : Head) (len : List ℕ) (toc : ℕ) (ns p : List ℕ) (first : ℕ) (store : List ℕ) → goesWith (collectorOf h len) toc (length ns) ≡ true → (at n : ℕ) (r : AddedHead) (all left : List ℕ)
+    → at ≡ total (heldLengths (collectorOf h len)) → n ≡ total ns → r ≡ moreFrames h toc (length ns) → all ≡ sets len (h .«nb_frames») ns → left ≡ copied store at p first n
+    → h .«nb_frames» + length ns ≤ 48 → (addedOf r all ≡ addBlock (collectorOf h len) toc ns p first store .answer) × ((left ≡ addBlock (collectorOf h len) toc ns p first store .store) × (r .count < 65536))
+block-as h len toc ns p first store g at n r all left a b w l c f = rw (block-added (collectorOf h len) toc ns p first store g, ← a, ← b, w, l) (refl, (c, omega arith))
 
 module _ (sd : Bool) (rp : OpusRepacketizer) (p store : List ℕ) where
   pub add-unsound : sound rp ≡ false → added sd rp p store ≡ noAdd InvalidState rp store
@@ -115,6 +123,10 @@ module _ (sd : Bool) (rp : OpusRepacketizer) (p store : List ℕ) where
   unfolding added
   add-sound s h = rw (s, le-ltb (length store) leastStore h)
 
+  pub add-long : 65535 < length p → addPacket sd rp p store ≡ noAdd BadArg rp store
+  unfolding addPacket
+  add-long h = rw (lt-ltb 65535 (length p) h)
+
   pub add-read : (toc : ℕ) (ns : List ℕ) (first end : ℕ) → length p ≤ 65535 → read sd p ≡ accepted toc ns first end → addPacket sd rp p store ≡ addBlock rp toc ns p first store
   unfolding addPacket
   add-read toc ns first end h r = rw (le-ltb 65535 (length p) h, r)
@@ -126,8 +138,8 @@ module _ (sd : Bool) (rp : OpusRepacketizer) (p store : List ℕ) where
       ∙ (add-read toc ns first end k r ∙ block-added rp toc ns p first store (sym (goes-none rp toc (length ns) e)))
 
 -- a refused add, as the code hands it back
-pub refused-as : {a : Adding} {e : Refusal} {rp : OpusRepacketizer} {store : List ℕ} {r : Added} → a ≡ noAdd e rp store → r ≡ refusedAdd e rp → (r ≡ a .answer) × (store ≡ a .store)
-refused-as p q = rw p (q, refl)
+pub refused-as : {a : Adding} {e : Refusal} {h : Head} {len store : List ℕ} {r : AddedHead} → a ≡ noAdd e (collectorOf h len) store → (r ≡ refusedHead e h) × (r .count < 65536) → (addedOf r len ≡ a .answer) × ((store ≡ a .store) × (r .count < 65536))
+refused-as p q = (rw (p, q .0), (rw p, q .1))
 
 -- ---- how an add ends
 pub data Ends (sd : Bool) (rp : OpusRepacketizer) (p store : List ℕ) : Adding → Type 0 where

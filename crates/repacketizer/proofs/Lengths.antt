@@ -1,18 +1,28 @@
 -- Lengths and frames that were stored behind others.
---     sets-more         one length more, as a loop stores them
---     take-sets-at      lengths that were stored behind others are read back with them
---     cut-copied        frames that were copied behind others are read back with them
+--     sets-first, sets-again, sets-more     one length more, as a loop stores them
+--     take-sets-at                          lengths that were stored behind others are read back with them
+--     cut-copied                            frames that were copied behind others are read back with them
 -- Assumes nothing.
-use Prim.Native.Nat.{ℕ, _+_, _≤_, _<_}
+use Prim.Native.Nat.{ℕ, suc, _+_, _≤_, _<_}
 use native.Mathlib.Omega.{arith}
-use mathlib.Core.Path.{_≡_, ap, _∙_}
-use mathlib.Core.List.{List, _++_, append-assoc}
+use mathlib.Core.Path.{_≡_, ap, sym, _∙_}
+use mathlib.Core.List.{List, [], _∷_, _++_, append-assoc}
 use lib.ListN.{length, getD, take, drop, set, length-append, length-drop}
-use lib.Seq.{sets, sets-eq, take-at, drop-at, length-take-le}
+use lib.Seq.{sets, set-set, sets-eq, take-at, drop-at, length-take-le}
 use Rattle.opus.specs.Frames.{cut, total}
 use Rattle.opus.proofs.Lengths.{take-next, cut-append, cut-front}
 use Rattle.blocks.specs.Blocks.{part, copied}
 use Rattle.blocks.proofs.Sets.{sets-next, length-part}
+
+-- ---- one length more, behind a first one that stands already
+module _ (l : List ℕ) (at : ℕ) where
+  pub sets-first : (ns : List ℕ) → 1 ≤ length ns → set l at (getD ns 0 0) ≡ sets (set l at (getD ns 0 0)) at (take 1 ns)
+  sets-first [] h = absurd (omega arith)
+  sets-first (n ∷ ns) h = sym (set-set l at n n)
+
+  pub sets-again : (ns : List ℕ) → 1 ≤ length ns → sets (set l at (getD ns 0 0)) at ns ≡ sets l at ns
+  sets-again [] h = absurd (omega arith)
+  sets-again (n ∷ ns) h = ap (λ (m : List ℕ). sets m (suc at) ns) (set-set l at n n)
 
 pub sets-more : (ns : List ℕ) (i : ℕ) → i < length ns → (l : List ℕ) (at : ℕ) → set (sets l at (take i ns)) (at + i) (getD ns i 0) ≡ sets l at (take (i + 1) ns)
 sets-more ns i h l at =

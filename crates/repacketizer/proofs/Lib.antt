@@ -1,6 +1,8 @@
+pub mod Counts
 pub mod Lengths
 pub mod Sound
 pub mod Held
+pub mod Checks
 pub mod Parsed
 pub mod Adds
 pub mod Steps

@@ -1,26 +1,29 @@
--- A packet that the reader refuses: the add is refused with the same refusal.
+-- A packet that the reader was lent an array for.
+--     lent-read        an accepted one: the reading, with the lengths as a part of the array
+--     lent-refused     a refused one that is not too long: the add is refused
 -- Assumes nothing.
-use Prim.Native.Nat.{ℕ}
-use mathlib.Core.Path.{_≡_, refl}
+use Prim.Native.Nat.{ℕ, _≤_}
+use mathlib.Core.Path.{_≡_}
 use mathlib.Core.List.{List}
 use mathlib.Core.Bool.{Bool}
-use lib.Dec.{ltb}
 use lib.ListN.{length}
-use Rattle.laws.proofs.Never.{never, by-test}
+use borrow.Author.Tests.{le-ltb}
 use Rattle.opus_defines.specs.declared.Refusal.{Refusal}
-use Rattle.opus_defines.specs.declared.Verdict.the-variants.{Refused}
-use Rattle.opus.specs.Reading.{Reading, refused, accepted, read}
-use Rattle.opus.specs.Answers.{packetOf, parsed}
-use Rattle.opus.specs.declared.Packet.{Packet}
+use Rattle.opus_defines.specs.declared.Refusal.the-variants.{InvalidPacket}
+use Rattle.opus_defines.specs.declared.Verdict.the-variants.{Accepted, Refused}
+use Rattle.opus.specs.Answers.{parsed, answerOf}
+use Rattle.opus.specs.declared.PacketHead.{PacketHead}
+use Rattle.opus.proofs.Parsed.{Read, parsed-accepted, parsed-refused}
+use Rattle.opus.proofs.Lent.{packetWith, lent-accepted}
 use Rattle.repacketizer.specs.declared.OpusRepacketizer.{OpusRepacketizer}
-use Rattle.repacketizer.specs.Adding.{noAdd, addRead, addPacket}
+use Rattle.repacketizer.specs.Adding.{noAdd, addPacket}
 
-module _ (sd : Bool) (p : List ℕ) (r : Packet) (e : r ≡ parsed sd p) where
-  pub parsed-refused : (c : Refusal) → r .verdict ≡ Refused c → (rp : OpusRepacketizer) (store : List ℕ) → addPacket sd rp p store ≡ noAdd c rp store
-  unfolding parsed addPacket
-  parsed-refused c v rp store =
-      by-test (ltb 65535 (length p)) (λ t. rw t (let x = rw t at e in cc)) (λ t. rw t (go (rw t at e) (read sd p) refl))
-    where
-      go : r ≡ packetOf (read sd p) → (x : Reading) → read sd p ≡ x → addRead rp p store (read sd p) ≡ noAdd c rp store
-      go f (refused rule) q = rw q (let x = rw q at f in cc)
-      go f (accepted toc ns first taken) q = never (let x = rw q at f in cc)
+module _ (sd : Bool) (p : List ℕ) (h : PacketHead) (l : List ℕ) (e : answerOf h l ≡ parsed sd p) where
+  pub lent-read : h .verdict ≡ Accepted → Read sd p (packetWith h l)
+  lent-read v = parsed-accepted sd p (packetWith h l) (lent-accepted sd p h l e v) v
+
+  pub lent-refused : length p ≤ 65535 → {c : Refusal} → h .verdict ≡ Refused c → (rp : OpusRepacketizer) (store : List ℕ) → addPacket sd rp p store ≡ noAdd InvalidPacket rp store
+  unfolding addPacket
+  lent-refused k {c} v rp store =
+      let r = parsed-refused sd p (answerOf h l) e c v k in
+      rw (le-ltb 65535 (length p) k, r .1 .1)

@@ -1,3 +1,4 @@
 pub mod Collector
 pub mod Adding
+pub mod Parts
 pub mod Runs

@@ -1,15 +1,16 @@
 // The collector by value, and adding packets to it (repacketizer.rs).
 ghost use mathlib.Core.Path.{_≡_};
+ghost use mathlib.Core.List.{[]};
 ghost use mathlib.Core.Bool.{true, false};
-ghost use Prim.Native.Nat.{_+_, _<_, _≤_};
-ghost use lib.Dec.{leb};
+ghost use Prim.Native.Nat.{_+_, _<_, _≤_, max};
 ghost use lib.ListN.{length};
 ghost use lib.Seq.{sets};
 ghost use Rattle.opus_defines.specs.Numbers.{numberOf};
 ghost use Rattle.opus_size.specs.Size.{mostBytes};
 ghost use Rattle.opus.specs.Frames.{total, longest};
-ghost use Rattle.repacketizer.specs.Collector.{empty, sound, nbFramesHeld, leastStore};
-ghost use Rattle.repacketizer.specs.Adding.{goesWith, withFrames, refusedAdd, addBlock, addPacket, added};
+ghost use Rattle.repacketizer.specs.Collector.{empty, heldLengths, sound, nbFramesHeld, leastStore};
+ghost use Rattle.repacketizer.specs.Adding.{goesWith, addBlock, addPacket, added};
+ghost use Rattle.repacketizer.specs.Parts.{measured, headOf, collectorOf, checked, refusedHead, moreFrames, addedOf};
 use opus_defines::Answer;
 use opus_defines::Refusal;
 use opus_defines::Verdict;
@@ -51,53 +52,106 @@ fn wide(x: u16) -> usize
     x as usize
 }
 
-// Whether no length is above 1275.
-fn all_small(ns: &[u16]) -> bool
-    ensures { λ r. ⌜ r ≡ leb (longest (now (ns .entry))) mostBytes ⌝ }
-{
-    let mut i: usize = 0;
-    while i < ns.len() {
-        if opus_size::MOST_BYTES < wide(ns[i]) {
-            return false;
-        }
-        i += 1;
-    }
-    true
+// What one pass over lengths finds: the longest, and the sum modulo 65,536, which is the sum of lengths that a collector can hold.
+pub struct Measured {
+    pub longest: u16,
+    pub total: u16,
 }
 
-// The sum of at most 48 lengths.
-pub fn total_of(ns: &[u16]) -> usize
-    requires { ⌜ length (now ns) ≤ 48 ⌝ }
-    ensures { λ r. ⌜ r ≡ total (now (ns .entry)) ⌝ }
+fn larger(a: u16, b: u16) -> u16
+    ensures { λ r. ⌜ r ≡ max a b ⌝ }
 {
-    let mut total: usize = 0;
+    if a < b { b } else { a }
+}
+
+// No test leaves the loop and all is counted in 16 bits, so that eight lengths or more are taken at a time.
+pub fn measure(ns: &[u16]) -> Measured
+    ensures { λ r. ⌜ r ≡ measured (now (ns .entry)) ⌝ }
+{
+    let mut most: u16 = 0;
+    let mut sum: u16 = 0;
     let mut i: usize = 0;
     while i < ns.len() {
-        total += wide(ns[i]);
+        most = larger(most, ns[i]);
+        sum = std::num::wrapping_add_u16(sum, ns[i]);
         i += 1;
     }
-    total
+    Measured {
+        longest: most,
+        total: sum,
+    }
+}
+
+// A collector without its lengths. They are lent beside it, since each struct that is passed would copy them.
+pub struct Head {
+    pub toc: u8,
+    pub nb_frames: u16,
+    pub framesize: Samples8k,
+}
+
+pub fn head_of(rp: OpusRepacketizer) -> Head
+    ensures { λ r. ⌜ r ≡ headOf rp ⌝ }
+{
+    let framesize = rp.framesize;
+    Head {
+        toc: rp.toc,
+        nb_frames: rp.nb_frames,
+        framesize,
+    }
+}
+
+// Whether a collector is sound, and the bytes of the frames held; 0 of one that is not.
+pub struct Checked {
+    pub sound: bool,
+    pub total: usize,
+}
+
+pub fn check(h: Head, len: &[u16]) -> Checked
+    requires { ⌜ length (now len) ≡ 48 ⌝ }
+    ensures { λ r. ⌜ r ≡ checked (collectorOf h (now (len .entry))) ⌝ }
+{
+    let count = h.nb_frames;
+    if count == 0 {
+        return Checked {
+            sound: true,
+            total: 0,
+        };
+    }
+    let framesize = h.framesize;
+    let each = opus_toc::samples_8k(h.toc);
+    if framesize.0 != each.0 {
+        return Checked {
+            sound: false,
+            total: 0,
+        };
+    }
+    if !each.fits(count) {
+        return Checked {
+            sound: false,
+            total: 0,
+        };
+    }
+    let n = wide(count);
+    let m = measure(&len[..n]);
+    if opus_size::MOST_BYTES < wide(m.longest) {
+        return Checked {
+            sound: false,
+            total: 0,
+        };
+    }
+    Checked {
+        sound: true,
+        total: wide(m.total),
+    }
 }
 
 // Whether a collector, however wild, is sound.
 pub fn is_sound(rp: OpusRepacketizer) -> bool
     ensures { λ r. ⌜ r ≡ sound rp ⌝ }
 {
-    let count = rp.nb_frames;
-    if count == 0 {
-        return true;
-    }
-    let framesize = rp.framesize;
-    let each = opus_toc::samples_8k(rp.toc);
-    if framesize.0 != each.0 {
-        return false;
-    }
-    if !each.fits(count) {
-        return false;
-    }
-    let n = wide(count);
     let len = rp.len;
-    all_small(&len[..n])
+    let c = check(head_of(rp), &len);
+    c.sound
 }
 
 // The frames held.
@@ -116,115 +170,154 @@ pub fn opus_repacketizer_get_nb_frames(rp: OpusRepacketizer) -> i32
     opus_defines::number_of(nb_frames_held(rp))
 }
 
-// Whether n frames with this TOC byte go with those held.
-fn goes_with(rp: OpusRepacketizer, toc: u8, n: u16) -> bool
-    requires { ⌜ (sound rp ≡ true) × (n ≤ 48) ⌝ }
-    ensures { λ r. ⌜ r ≡ goesWith rp toc n ⌝ }
+// Whether n frames with this TOC byte go with those held, whatever the lengths.
+fn goes_with(h: Head, toc: u8, n: u16) -> bool
+    requires { ⌜ (h .«nb_frames» ≤ 48) × (n ≤ 48) ⌝ }
+    ensures { λ r. ⌜ r ≡ goesWith (collectorOf h []) toc n ⌝ }
 {
-    let count = rp.nb_frames;
+    let count = h.nb_frames;
     if count == 0 {
         return true;
     }
-    if toc / 4 != rp.toc / 4 {
+    if toc / 4 != h.toc / 4 {
         return false;
     }
-    let framesize = rp.framesize;
+    let framesize = h.framesize;
     framesize.fits(count + n)
 }
 
-// The array with the lengths of `ns` from a place on.
-fn put_lengths(len: [u16; 48], at: usize, ns: &[u16]) -> [u16; 48]
-    requires { ⌜ (length len ≡ 48) × (at + length (now ns) ≤ 48) ⌝ }
-    ensures { λ r. ⌜ r ≡ sets len at (now (ns .entry)) ⌝ }
+// The lengths of `ns` into `len` from a place on. The first one stands alone: most packets have one frame, and the loop becomes a call.
+fn put_lengths(len: &mut [u16], at: usize, ns: &[u16])
+    requires { ⌜ (1 ≤ length (now ns)) × (at + length (now ns) ≤ length (now len)) ⌝ }
+    ensures { λ _. ⌜ now (len .exit) ≡ sets (now (len .entry)) at (now (ns .entry)) ⌝ }
 {
-    let mut all = len;
-    let mut i: usize = 0;
+    len[at] = ns[0];
+    let mut i: usize = 1;
     while i < ns.len() {
-        all[at + i] = ns[i];
+        len[at + i] = ns[i];
         i += 1;
     }
-    all
 }
 
-// The collector with frames of these lengths more.
-fn with_frames(rp: OpusRepacketizer, toc: u8, ns: &[u16]) -> OpusRepacketizer
-    requires { ⌜ rp .«nb_frames» + length (now ns) ≤ 48 ⌝ }
-    ensures { λ r. ⌜ r ≡ withFrames rp toc (now (ns .entry)) ⌝ }
+// What an add answers where the lengths are lent. The count is no `u16`: a struct of eight bytes is kept in one register and taken apart by shifts.
+pub struct AddedHead {
+    pub verdict: Verdict,
+    pub toc: u8,
+    pub framesize: Samples8k,
+    pub count: usize,
+}
+
+// A collector with n frames more.
+fn more_frames(h: Head, toc: u8, n: usize) -> AddedHead
+    requires { ⌜ h .«nb_frames» + n ≤ 48 ⌝ }
+    ensures { λ r. ⌜ r ≡ moreFrames h toc n ⌝ }
 {
-    let count = rp.nb_frames;
-    let at = wide(count);
-    let old = rp.len;
-    let len = put_lengths(old, at, ns);
-    let nb_frames = (at + ns.len()) as u16;
+    let framesize = h.framesize;
+    let count = wide(h.nb_frames);
     if count == 0 {
-        let framesize = opus_toc::samples_8k(toc);
-        return OpusRepacketizer {
+        let each = opus_toc::samples_8k(toc);
+        return AddedHead {
+            verdict: Verdict::Accepted,
             toc,
-            nb_frames,
-            framesize,
-            len,
+            framesize: each,
+            count: n,
         };
     }
-    let framesize = rp.framesize;
-    OpusRepacketizer {
-        toc: rp.toc,
-        nb_frames: nb_frames,
+    AddedHead {
+        verdict: Verdict::Accepted,
+        toc: h.toc,
         framesize,
-        len,
+        count: count + n,
     }
 }
 
-fn refused_add(e: Refusal, rp: OpusRepacketizer) -> Added
-    ensures { λ r. ⌜ r ≡ refusedAdd e rp ⌝ }
+fn refused_add(e: Refusal, h: Head) -> AddedHead
+    ensures { λ r. ⌜ (r ≡ refusedHead e h) × (r .count < 65536) ⌝ }
 {
-    Added {
+    let framesize = h.framesize;
+    AddedHead {
         verdict: Verdict::Refused(e),
-        rp,
+        toc: h.toc,
+        framesize,
+        count: wide(h.nb_frames),
     }
 }
 
-// Adds frames of lengths `ns` that stand in `data` from place `first` on: one block is copied behind those held.
+// Adds frames of lengths `ns` that stand in `data` from place `first` on: one block is copied behind those held, which end at `at`.
 fn add_block(
-    rp: OpusRepacketizer,
+    h: Head,
+    len: &mut [u16],
+    at: usize,
     toc: u8,
     ns: &[u16],
     data: &[u8],
     first: usize,
     store: &mut [u8],
-) -> Added
-    requires collector { ⌜ (sound rp ≡ true) × (leastStore ≤ length (now store)) ⌝ }
-    requires frames { ⌜ (length (now ns) ≤ 48) × (longest (now ns) ≤ mostBytes) × (first + total (now ns) ≤ length (now «data»)) ⌝ }
-    ensures answer { λ r. ⌜ r ≡ addBlock rp toc (now (ns .entry)) (now («data» .entry)) first (now (store .entry)) .answer ⌝ }
-    ensures bytes { λ _. ⌜ now (store .exit) ≡ addBlock rp toc (now (ns .entry)) (now («data» .entry)) first (now (store .entry)) .store ⌝ }
+) -> AddedHead
+    requires collector { ⌜ (length (now len) ≡ 48) × (sound (collectorOf h (now len)) ≡ true) × (at ≡ total (heldLengths (collectorOf h (now len)))) × (leastStore ≤ length (now store)) ⌝ }
+    requires frames { ⌜ (1 ≤ length (now ns)) × (length (now ns) ≤ 48) × (longest (now ns) ≤ mostBytes) × (first + total (now ns) ≤ length (now «data»)) ⌝ }
+    ensures answer { λ r. ⌜ addedOf r (now (len .exit)) ≡ addBlock (collectorOf h (now (len .entry))) toc (now (ns .entry)) (now («data» .entry)) first (now (store .entry)) .answer ⌝ }
+    ensures bytes { λ _. ⌜ now (store .exit) ≡ addBlock (collectorOf h (now (len .entry))) toc (now (ns .entry)) (now («data» .entry)) first (now (store .entry)) .store ⌝ }
+    ensures few { λ r. ⌜ r .count < 65536 ⌝ }
 {
-    if !goes_with(rp, toc, ns.len() as u16) {
-        return refused_add(Refusal::InvalidPacket, rp);
+    if !goes_with(h, toc, ns.len() as u16) {
+        return refused_add(Refusal::InvalidPacket, h);
     }
-    let n = wide(rp.nb_frames);
-    let len = rp.len;
-    let at = total_of(&len[..n]);
-    blocks::copy_into(store, at, data, first, total_of(ns));
-    Added {
-        verdict: Verdict::Accepted,
-        rp: with_frames(rp, toc, ns),
-    }
+    let m = measure(ns);
+    blocks::copy_into(store, at, data, first, wide(m.total));
+    put_lengths(len, wide(h.nb_frames), ns);
+    more_frames(h, toc, ns.len())
 }
 
-// Reads a packet and adds it to a sound collector.
-fn add_packet(rp: OpusRepacketizer, data: &[u8], self_delimited: bool, store: &mut [u8]) -> Added
-    requires { ⌜ (sound rp ≡ true) × (leastStore ≤ length (now store)) ⌝ }
-    ensures answer { λ r. ⌜ r ≡ addPacket «self_delimited» rp (now («data» .entry)) (now (store .entry)) .answer ⌝ }
-    ensures bytes { λ _. ⌜ now (store .exit) ≡ addPacket «self_delimited» rp (now («data» .entry)) (now (store .entry)) .store ⌝ }
+// Reads a packet and adds it to a sound collector. Each refusal is named here, so that its number is known where the collector is built.
+fn add_packet(
+    h: Head,
+    len: &mut [u16],
+    at: usize,
+    data: &[u8],
+    self_delimited: bool,
+    store: &mut [u8],
+) -> AddedHead
+    requires { ⌜ (length (now len) ≡ 48) × (sound (collectorOf h (now len)) ≡ true) × (at ≡ total (heldLengths (collectorOf h (now len)))) × (leastStore ≤ length (now store)) ⌝ }
+    ensures answer { λ r. ⌜ addedOf r (now (len .exit)) ≡ addPacket «self_delimited» (collectorOf h (now (len .entry))) (now («data» .entry)) (now (store .entry)) .answer ⌝ }
+    ensures bytes { λ _. ⌜ now (store .exit) ≡ addPacket «self_delimited» (collectorOf h (now (len .entry))) (now («data» .entry)) (now (store .entry)) .store ⌝ }
+    ensures few { λ r. ⌜ r .count < 65536 ⌝ }
 {
-    let p = opus::opus_packet_parse_impl(data, self_delimited);
+    if opus::MOST_PACKET < data.len() {
+        return refused_add(Refusal::BadArg, h);
+    }
+    let mut lengths = [0u16; 48];
+    let p = opus::read_into(data, self_delimited, &mut lengths);
     let v = p.verdict;
-    let Verdict::Refused(e) = v else {
-        let n = p.count;
-        let lengths = p.lengths;
-        let first = p.first;
-        return add_block(rp, p.toc, &lengths[..n], data, first, store);
+    let Verdict::Accepted = v else {
+        return refused_add(Refusal::InvalidPacket, h);
     };
-    refused_add(e, rp)
+    let n = p.count;
+    let first = p.first;
+    add_block(h, len, at, p.toc, &lengths[..n], data, first, store)
+}
+
+// Adds a packet in the named delimiting to the collector with this head and these lengths.
+pub fn add(
+    h: Head,
+    len: &mut [u16],
+    data: &[u8],
+    self_delimited: bool,
+    store: &mut [u8],
+) -> AddedHead
+    requires { ⌜ length (now len) ≡ 48 ⌝ }
+    ensures answer { λ r. ⌜ addedOf r (now (len .exit)) ≡ added «self_delimited» (collectorOf h (now (len .entry))) (now («data» .entry)) (now (store .entry)) .answer ⌝ }
+    ensures bytes { λ _. ⌜ now (store .exit) ≡ added «self_delimited» (collectorOf h (now (len .entry))) (now («data» .entry)) (now (store .entry)) .store ⌝ }
+    ensures few { λ r. ⌜ r .count < 65536 ⌝ }
+{
+    let c = check(h, &len[..]);
+    if !c.sound {
+        return refused_add(Refusal::InvalidState, h);
+    }
+    if store.len() < LEAST_STORE {
+        return refused_add(Refusal::BadArg, h);
+    }
+    add_packet(h, len, c.total, data, self_delimited, store)
 }
 
 // Adds a packet in the named delimiting to the collector, whose frames stand in the store.
@@ -237,13 +330,19 @@ pub fn opus_repacketizer_cat_impl(
     ensures answer { λ r. ⌜ r ≡ added «self_delimited» rp (now («data» .entry)) (now (store .entry)) .answer ⌝ }
     ensures bytes { λ _. ⌜ now (store .exit) ≡ added «self_delimited» rp (now («data» .entry)) (now (store .entry)) .store ⌝ }
 {
-    if !is_sound(rp) {
-        return refused_add(Refusal::InvalidState, rp);
+    let mut len = rp.len;
+    let a = add(head_of(rp), &mut len, data, self_delimited, store);
+    let each = a.framesize;
+    let v = a.verdict;
+    Added {
+        verdict: v,
+        rp: OpusRepacketizer {
+            toc: a.toc,
+            nb_frames: a.count as u16,
+            framesize: each,
+            len,
+        },
     }
-    if store.len() < LEAST_STORE {
-        return refused_add(Refusal::BadArg, rp);
-    }
-    add_packet(rp, data, self_delimited, store)
 }
 
 // Adds an ordinary packet.

@@ -1,13 +1,13 @@
 -- Ranges of the frames held.
 --     lasts-fewer                                 fewer frames last at most 120 ms too
 --     range-cut, length-cut, length-held          a range of frames that lengths cut off a block is cut by that range of the lengths
---     Part, part-of                               what is known of a range of the frames that a sound collector holds
+--     Part, part-of, part-from                    what is known of a range of the frames that a sound collector holds
 --     ready-holding, range-lasts, range-small     the same of a collector with its store
 -- Assumes nothing.
-use Prim.Native.Nat.{ℕ, zero, suc, _+_, _*_, _-_, _/_, _≤_, _<_}
+use Prim.Native.Nat.{ℕ, zero, suc, _+_, _*_, _-_, _/_, _%_, _≤_, _<_}
 use native.Mathlib.Nat.{mul-le-mul}
 use native.Mathlib.Omega.{arith}
-use mathlib.Core.Path.{_≡_, refl, _∙_}
+use mathlib.Core.Path.{_≡_, refl, ap, _∙_}
 use mathlib.Core.List.{List, [], _∷_}
 use lib.ListN.{length, take, drop, length-take, length-drop}
 use lib.Seq.{take-take, drop-drop}
@@ -18,7 +18,9 @@ use Rattle.opus.specs.Format.{Lasts}
 use Rattle.opus.proofs.Frames.{lengths-cut}
 use Rattle.opus.proofs.Lengths.{longest-take}
 use Rattle.repacketizer.specs.declared.OpusRepacketizer.{OpusRepacketizer}
+use Rattle.repacketizer.specs.declared.Measured.{Measured}
 use Rattle.repacketizer.specs.Collector.{held, heldLengths, leastStore}
+use Rattle.repacketizer.specs.Parts.{measured}
 use Rattle.repacketizer.specs.Runs.{State, Ready}
 use Rattle.repacketizer.proofs.Held.{Holding, holding}
 use Rattle.repacketizer_out.specs.Output.{range}
@@ -107,6 +109,12 @@ part-of rp h b e some within =
       lasts = lasts-fewer (length (range b e (rp .len))) (h .lasts (omega arith)) (omega arith) (omega arith);
       frames = λ store. rw (range-cut b e (heldLengths rp) store, same, front);
     }
+
+-- where it begins in the store, as the code counts it
+pub part-from : {rp : OpusRepacketizer} {b e : ℕ} → Part rp b e → (m : Measured) → m ≡ measured (take b (rp .len)) → {from : ℕ} → from ≡ m .total → from ≡ total (take b (rp .len))
+part-from {rp} {b} p m q f =
+    let sum : total (take b (rp .len)) % 65536 ≡ total (take b (rp .len)) = omega (arith, p .block) in
+    f ∙ (ap (λ (k : Measured). k .total) q ∙ sum)
 
 -- ---- the same of a collector with its store
 pub ready-holding : (s : State) → Ready s → Holding (s .rp)

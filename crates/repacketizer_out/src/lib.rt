@@ -13,12 +13,14 @@ ghost use Rattle.opus.specs.Frames.{cut, total, longest};
 ghost use Rattle.blocks.specs.Blocks.{part};
 ghost use Rattle.opus_header.specs.Sums.{sumsOf, headerOf};
 ghost use Rattle.repacketizer.specs.Collector.{held, leastStore, sound};
+ghost use Rattle.repacketizer.specs.Parts.{collectorOf};
 ghost use Rattle.repacketizer_out.specs.Output.{output, outFrames, outRange, outAll};
 use opus_defines::Answer;
 use opus_defines::Count;
 use opus_defines::Refusal;
 use opus_header::Form;
 use opus_header::Sums;
+use repacketizer::Head;
 use repacketizer::OpusRepacketizer;
 
 // The header of a packet and its frames, which stand in `store` from a place on: one header, one block.
@@ -77,7 +79,8 @@ fn put_frames(
 
 // The range begin..end of the frames held.
 fn out_frames(
-    rp: OpusRepacketizer,
+    h: Head,
+    len: &[u16],
     store: &[u8],
     begin: usize,
     end: usize,
@@ -85,24 +88,24 @@ fn out_frames(
     self_delimited: bool,
     pad: bool,
 ) -> Answer
-    requires { ⌜ (sound rp ≡ true) × (leastStore ≤ length (now store)) × (length (now «data») ≤ 65535) ⌝ }
-    ensures number { λ r. ⌜ numberOf r ≡ outFrames «self_delimited» pad (upperSix (rp .toc)) (held rp (now (store .entry))) (pos begin) (pos end) (now («data» .entry)) .number ⌝ }
-    ensures bytes { λ _. ⌜ now («data» .exit) ≡ outFrames «self_delimited» pad (upperSix (rp .toc)) (held rp (now (store .entry))) (pos begin) (pos end) (now («data» .entry)) .bytes ⌝ }
+    requires collector { ⌜ (length (now len) ≡ 48) × (sound (collectorOf h (now len)) ≡ true) ⌝ }
+    requires buffers { ⌜ (leastStore ≤ length (now store)) × (length (now «data») ≤ 65535) ⌝ }
+    ensures number { λ r. ⌜ numberOf r ≡ outFrames «self_delimited» pad (upperSix (h .toc)) (held (collectorOf h (now (len .entry))) (now (store .entry))) (pos begin) (pos end) (now («data» .entry)) .number ⌝ }
+    ensures bytes { λ _. ⌜ now («data» .exit) ≡ outFrames «self_delimited» pad (upperSix (h .toc)) (held (collectorOf h (now (len .entry))) (now (store .entry))) (pos begin) (pos end) (now («data» .entry)) .bytes ⌝ }
 {
-    let n = wide(rp.nb_frames);
+    let n = wide(h.nb_frames);
     if end <= begin {
         return Answer::Refused(Refusal::BadArg);
     }
     if n < end {
         return Answer::Refused(Refusal::BadArg);
     }
-    let len = rp.len;
-    let from = repacketizer::total_of(&len[..begin]);
+    let before = repacketizer::measure(&len[..begin]);
     put_frames(
         &len[begin..end],
-        rp.toc,
+        h.toc,
         store,
-        from,
+        wide(before.total),
         data,
         self_delimited,
         pad,
@@ -128,7 +131,10 @@ fn out_answer(
     ensures number { λ r. ⌜ numberOf r ≡ outRange «self_delimited» pad rp (now (store .entry)) begin end (now («data» .entry)) .number ⌝ }
     ensures bytes { λ _. ⌜ now («data» .exit) ≡ outRange «self_delimited» pad rp (now (store .entry)) begin end (now («data» .entry)) .bytes ⌝ }
 {
-    if !repacketizer::is_sound(rp) {
+    let h = repacketizer::head_of(rp);
+    let len = rp.len;
+    let c = repacketizer::check(h, &len);
+    if !c.sound {
         return Answer::Refused(Refusal::InvalidState);
     }
     if store.len() < repacketizer::LEAST_STORE {
@@ -143,7 +149,7 @@ fn out_answer(
     let Count::Is(e) = opus_defines::count_of(end) else {
         return Answer::Refused(Refusal::BadArg);
     };
-    out_frames(rp, store, b, e, data, self_delimited, pad)
+    out_frames(h, &len, store, b, e, data, self_delimited, pad)
 }
 
 // Writes the frames begin..end as one packet in the named delimiting, which fills `data` where padding is asked for, and answers its bytes.

@@ -1,97 +1,100 @@
 -- `repacketizer::add_block` meets its contract: frames that go with those held are copied behind them.
 -- Assumes nothing.
-use Prim.Native.Nat.{_≤_, _<_}
+use Prim.Native.Nat.{_+_, _≤_, _<_}
 use mathlib.Core.Path.{_≡_, sym, ap, _∙_}
 use mathlib.Core.Bool.{true}
+use mathlib.Core.List.{[]}
 use native.Mathlib.Omega.{arith}
 use borrow.Author.Needs.{needs}
 use borrow.Author.Tests.{not-true, not-false}
-use lib.ListN.{length, take}
-use lib.Seq.{length-take-le}
+use lib.ListN.{length}
+use lib.Seq.{sets}
 use Rattle.opus.specs.Frames.{total}
-use Rattle.repacketizer.specs.Collector.{heldLengths}
+use Rattle.repacketizer.specs.declared.Measured.{Measured}
 use Rattle.repacketizer.specs.Adding.{goesWith}
+use Rattle.repacketizer.specs.Parts.{collectorOf}
+use Rattle.repacketizer.proofs.Counts.{sum-small}
 use Rattle.repacketizer.proofs.Held.{Holding, holding}
 use Rattle.repacketizer.proofs.Adds.{with-few, with-room, block-refused, block-as, refused-as}
 use Rattle.repacketizer.proofs.add_block.Statement.{statement}
 use Rattle.repacketizer.proofs.add_block.Tie as tie
 
-returns : tie.Need-returns
-returns c =
-    let b = c .before .before in
-    let a = b .before .before .before .before .args in
-    refused-as (block-refused (a .rp) (a .toc) (a .ns .now) (a .«data» .now) (a .first) (a .store .now) (sym (b .goes-with .ensures) ∙ not-true _ (c .before .if1 .taken))) (c .refused-add .ensures)
-
 -- the collector is as the code can have it
-byte : (c : tie.Start) → c .args .rp .toc < 256
+byte : (c : tie.Start) → c .args .h .toc < 256
 byte c = search needs
 
-long : (c : tie.Start) → length (c .args .rp .len) ≡ 48
-long c = search needs
+holds : (c : tie.Start) → Holding (collectorOf (c .args .h) (c .args .len .now))
+holds c = holding (collectorOf (c .args .h) (c .args .len .now)) (byte c) (c .pre .0 .0) (c .pre .0 .1)
+
+goes-with-requires : tie.Need-goes-with-requires
+goes-with-requires c κs =
+    let s = c .before .before .before .before in
+    (holds s .few, s .pre .1 .1)
+
+returns : tie.Need-returns
+returns c =
+    let g = c .before .before in
+    let a = g .before .before .before .before .before .args in
+    refused-as (block-refused (collectorOf (a .h) (a .len .now)) (a .toc) (a .ns .now) (a .«data» .now) (a .first) (a .store .now) (sym (g .goes-with .ensures) ∙ not-true _ (c .before .if1 .taken))) (c .refused-add .ensures)
 
 -- the frames go with those held
-goes : (c : tie.Else1) → goesWith (c .before .before .before .before .before .args .rp) (c .before .before .before .before .before .args .toc) (length (c .before .before .before .before .before .args .ns .now)) ≡ true
+goes : (c : tie.Else1) → let a = c .before .before .before .before .before .before .args in goesWith (collectorOf (a .h) []) (a .toc) (length (a .ns .now)) ≡ true
 goes c = sym (c .before .goes-with .ensures) ∙ not-false _ (c .if1 .left)
 
-holds : (c : tie.Else1) → Holding (c .before .before .before .before .before .args .rp)
-holds c =
-    let s = c .before .before .before .before .before in
-    holding (s .args .rp) (byte s) (long s) (s .pre .0 .0)
+few : (c : tie.Else1) → let a = c .before .before .before .before .before .before .args in a .h .«nb_frames» + length (a .ns .now) ≤ 48
+few c =
+    let s = c .before .before .before .before .before .before in
+    with-few (collectorOf (s .args .h) (s .args .len .now)) (s .args .toc) (s .args .ns .now) (s .pre .0 .1) (goes c) (byte s) (s .pre .1 .1)
 
-inside : (c : tie.After-len) → c .before .wide .result ≤ length (c .before .before .before .before .before .before .before .args .rp .len)
-inside c = omega (arith, long (c .before .before .before .before .before .before .before), c .before .wide .ensures .0, holds (c .before .before) .few)
-
-slice-aggregate-total-of : tie.Need-slice-aggregate-total-of
-slice-aggregate-total-of c = sym (length-take-le _ _ (inside (c .before)))
-
-total-of-requires : tie.Need-total-of-requires
-total-of-requires c κs =
-    let w = c .before .before in
-    omega (arith, length-take-le (w .wide .result) (w .before .before .before .before .before .before .args .rp .len) (inside (c .before)), w .wide .ensures .0, holds (w .before) .few)
-
--- the bytes held, as the code counts them
-behind : (c : tie.After-total-of) → c .total-of .result ≡ total (heldLengths (c .before .before .before .before .before .before .before .before .before .args .rp))
-behind c =
-    let w = c .before .before .before in
-    c .total-of .ensures ∙ ap (λ n. total (take n (w .before .before .before .before .before .before .args .rp .len))) (w .wide .ensures .0)
+-- the bytes of the new frames, as the code counts them
+sum : (c : tie.After-wide) → let a = c .before .before .before .before .before .before .before .before .before .args in c .wide .result ≡ total (a .ns .now)
+sum c =
+    let m = c .before .before .measure in
+    let s = c .before .before .before .before .before .before .before .before .before in
+    c .wide .ensures .0 ∙ (ap (λ (m : Measured). m .total) (m .ensures) ∙ sum-small (s .args .ns .now) (s .pre .1 .1) (s .pre .1 .2))
 
 copy-into-requires : tie.Need-copy-into-requires
 copy-into-requires c κs =
-    let t = c .before .before in
-    let i = t .before .before .before .before in
-    let s = i .before .before .before .before .before in
-    let room = with-room (s .args .rp) (s .args .toc) (s .args .ns .now) (s .pre .0 .0) (goes i) (byte s) (long s) (s .pre .1 .0) (s .pre .1 .1) in
-    (omega (arith, behind t, c .total-of2 .ensures, room, s .pre .0 .1), omega (arith, c .total-of2 .ensures, s .pre .1 .2))
+    let i = c .before .before .before in
+    let s = i .before .before .before .before .before .before in
+    let room = with-room (collectorOf (s .args .h) (s .args .len .now)) (s .args .toc) (s .args .ns .now) (s .pre .0 .1) (goes i) (byte s) (s .pre .0 .0) (s .pre .1 .1) (s .pre .1 .2) in
+    (omega (arith, s .pre .0 .2, sum c, room, s .pre .0 .3), omega (arith, sum c, s .pre .1 .3))
 
-with-frames-requires : tie.Need-with-frames-requires
-with-frames-requires c κs =
-    let i = c .before .before .before .before .before .before .before .before .before in
-    let s = i .before .before .before .before .before in
-    with-few (s .args .rp) (s .args .toc) (s .args .ns .now) (s .pre .0 .0) (goes i) (byte s) (s .pre .1 .0)
+put-lengths-requires : tie.Need-put-lengths-requires
+put-lengths-requires c κs =
+    let i = c .before .before .before .before .before .before .before .before in
+    let s = i .before .before .before .before .before .before in
+    (s .pre .1 .0, omega (arith, c .wide2 .ensures .0, few i, s .pre .0 .0))
+
+more-frames-requires : tie.Need-more-frames-requires
+more-frames-requires c κs = few (c .before .before .before .before .before .before .before .before .before .before .before)
 
 returns-2 : tie.Need-returns-2
 returns-2 c =
-    let k = c .before .before .before in
-    let t = k .before .before .before in
-    let i = t .before .before .before .before in
-    let a = i .before .before .before .before .before .args in
-    block-as (a .rp) (a .toc) (a .ns .now) (a .«data» .now) (a .first) (a .store .now) (goes i) (t .total-of .result) (k .before .total-of2 .result) (c .with-frames .result) (k .copy-into .last .0)
-    (behind t) (k .before .total-of2 .ensures) (c .with-frames .ensures) (k .copy-into .ensures)
+    let p = c .before .before .before in
+    let w = p .before in
+    let k = w .before .before .before .before in
+    let t = k .before in
+    let i = t .before .before .before in
+    let s = i .before .before .before .before .before .before in
+    let a = s .args in
+    block-as (a .h) (a .len .now) (a .toc) (a .ns .now) (a .«data» .now) (a .first) (a .store .now) (goes i) (a .at) (t .wide .result) (c .more-frames .result) (p .put-lengths .last .0) (k .copy-into .last .0)
+    (s .pre .0 .2) (sum t) (c .more-frames .ensures) (p .put-lengths .ensures ∙ ap (λ n. sets (a .len .now) n (a .ns .now)) (w .wide2 .ensures .0)) (k .copy-into .ensures) (few i)
 
 pub add-block-spec : {M : Type 1} → statement M
 add-block-spec =
     tie.close
     (tie.spec
     (λ c. search needs)
-    (λ c κs. search needs)
+    goes-with-requires
     (λ c κs. search needs)
     returns
     (λ c κs. search needs)
-    inside
-    slice-aggregate-total-of
-    total-of-requires
     (λ c κs. search needs)
     copy-into-requires
-    with-frames-requires
+    (λ c κs. search needs)
+    put-lengths-requires
+    more-frames-requires
+    (λ c. search needs)
     (λ c. search needs)
     returns-2)

@@ -5,18 +5,32 @@ use native.Mathlib.Omega.{arith}
 use borrow.Author.Needs.{needs}
 use lib.Seq.{length-take-le}
 use Rattle.opus.proofs.Facts.{facts}
-use Rattle.opus.proofs.Parsed.{Read, lengthsOf, parsed-accepted}
-use Rattle.repacketizer.proofs.Parsed.{parsed-refused}
-use Rattle.repacketizer.proofs.Adds.{add-read, refused-as}
+use Rattle.opus.proofs.Parsed.{Read, lengthsOf}
+use Rattle.opus.proofs.Lent.{packetWith}
+use Rattle.repacketizer.specs.Parts.{collectorOf}
+use Rattle.repacketizer.proofs.Parsed.{lent-read, lent-refused}
+use Rattle.repacketizer.proofs.Adds.{add-long, add-read, refused-as}
 use Rattle.repacketizer.proofs.add_packet.Statement.{statement}
 use Rattle.repacketizer.proofs.add_packet.Tie as tie
 
+returns : tie.Need-returns
+returns c =
+    let a = c .before .before .before .before .before .args in
+    refused-as (add-long (a .self-delimited) (collectorOf (a .h) (a .len .now)) (a .«data» .now) (a .store .now) (c .before .if1 .taken)) (c .refused-add .ensures)
+
+returns-2 : tie.Need-returns-2
+returns-2 c =
+    let r = c .before .before .before in
+    let i = r .before .before in
+    let a = i .before .before .before .before .args in
+    refused-as (lent-refused (a .self-delimited) (a .«data» .now) (r .read-into .result) (r .read-into .last .1 .1 .0) (r .read-into .ensures) (i .if1 .left) (c .before .enum-told2 .given .1) (collectorOf (a .h) (a .len .now)) (a .store .now)) (c .refused-add2 .ensures)
+
 -- what was read of an accepted packet
-reading : (c : tie.After-enum-told) → Read (c .before .before .before .before .before .args .self-delimited) (c .before .before .before .before .before .args .«data» .now) (c .before .before .opus-packet-parse-impl .result)
+reading : (c : tie.After-enum-told) → let r = c .before .before in let a = r .before .before .before .before .before .before .args in Read (a .self-delimited) (a .«data» .now) (packetWith (r .read-into .result) (r .read-into .last .1 .1 .0))
 reading c =
-    let p = c .before .before in
-    let a = p .before .before .before .args in
-    parsed-accepted (a .self-delimited) (a .«data» .now) (p .opus-packet-parse-impl .result) (p .opus-packet-parse-impl .ensures) (c .enum-told .given .1)
+    let r = c .before .before in
+    let a = r .before .before .before .before .before .before .args in
+    lent-read (a .self-delimited) (a .«data» .now) (r .read-into .result) (r .read-into .last .1 .1 .0) (r .read-into .ensures) (c .enum-told .given .1)
 
 array-share-prefix-lengths : tie.Need-array-share-prefix-lengths
 array-share-prefix-lengths c = reading (c .before) .inside
@@ -27,38 +41,36 @@ slice-aggregate-add-block c = sym (length-take-le _ _ (reading (c .before .befor
 add-block-requires : tie.Need-add-block-requires
 add-block-requires c κs =
     let t = c .before .before .before in
-    let r = t .before .before .opus-packet-parse-impl .result in
-    let s = t .before .before .before .before in
-    let a = s .before .args in
-    let f = facts (a .self-delimited) (a .«data» .now) (r .toc) (lengthsOf r) (r .first) (r .taken) (record { byte = λ i. s .shared-slice-known .given i .fits }) (reading t .means) in
-    (s .before .pre, (f .few, f .small, omega (arith, f .block, f .within)))
+    let r = t .before .before in
+    let k = r .before .before .before .before in
+    let s = k .before .before in
+    let q = packetWith (r .read-into .result) (r .read-into .last .1 .1 .0) in
+    let f = facts (s .args .self-delimited) (s .args .«data» .now) (q .toc) (lengthsOf q) (q .first) (q .taken) (record { byte = λ i. k .shared-slice-known .given i .fits }) (reading t .means) in
+    (s .pre, (f .some, f .few, f .small, omega (arith, f .block, f .within)))
 
-returns : tie.Need-returns
-returns c =
-    let b = c .before .before in
+returns-3 : tie.Need-returns-3
+returns-3 c =
+    let b = c .before .before .before .before in
     let t = b .before .before .before .before in
-    let r = t .before .before .opus-packet-parse-impl .result in
-    let a = t .before .before .before .before .before .args in
-    rw (add-read (a .self-delimited) (a .rp) (a .«data» .now) (a .store .now) (r .toc) (lengthsOf r) (r .first) (r .taken) (reading t .short) (reading t .means)) (b .add-block .ensures)
-
-returns-2 : tie.Need-returns-2
-returns-2 c =
-    let v = c .before .before in
-    let p = v .before .before in
-    let a = p .before .before .before .args in
-    refused-as (parsed-refused (a .self-delimited) (a .«data» .now) (p .opus-packet-parse-impl .result) (p .opus-packet-parse-impl .ensures) _ (v .v .given .1) (a .rp) (a .store .now)) (c .refused-add .ensures)
+    let r = t .before .before in
+    let a = r .before .before .before .before .before .before .args in
+    let q = packetWith (r .read-into .result) (r .read-into .last .1 .1 .0) in
+    rw (add-read (a .self-delimited) (collectorOf (a .h) (a .len .now)) (a .«data» .now) (a .store .now) (q .toc) (lengthsOf q) (q .first) (q .taken) (reading t .short) (reading t .means)) (b .add-block .ensures)
 
 pub add-packet-spec : {M : Type 1} → statement M
 add-packet-spec =
     tie.close
     (tie.spec
     (λ c κs. search needs)
+    returns
+    (λ c κs. search needs)
     (λ c. search needs)
     (λ c. search needs)
+    (λ c κs. search needs)
+    returns-2
     array-share-prefix-lengths
     slice-aggregate-add-block
     add-block-requires
     (λ c. search needs)
-    returns
-    (λ c κs. search needs)
-    returns-2)
+    (λ c. search needs)
+    returns-3)

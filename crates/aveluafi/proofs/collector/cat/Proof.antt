@@ -1,31 +1,22 @@
--- `aveluafi::collector::cat` meets its contract: the core's add, by its verdict.
+-- `aveluafi::collector::cat` meets its contract: the core's add, with the collector taken apart and put together again.
 -- Assumes nothing.
-use mathlib.Core.Path.{_≡_, _∙_, ap}
-use mathlib.Core.Bool.{false}
+use mathlib.Core.Path.{_≡_, _∙_}
 use borrow.Author.Needs.{needs}
-use lib.IntN.{ℤ}
 use mir.Syntax.{w32}
 use mir.Val.{toZ, ofZ}
-use Rattle.aveluafi.specs.Records.{addRecord}
-use Rattle.aveluafi.proofs.Records.{record-accepted, record-refused}
+use Rattle.repacketizer.proofs.Checks.{headed}
+use Rattle.aveluafi.proofs.Records.{record-added}
 use Rattle.aveluafi.proofs.collector.cat.Statement.{statement}
 use Rattle.aveluafi.proofs.collector.cat.Tie as tie
 
 returns : tie.Need-returns
 returns c =
-    let a = c .before .before .before .before .before .opus-repacketizer-cat in
-    (record-accepted (a .result) (c .enum-told .given .1) ∙ ap addRecord (a .ensures .0), a .ensures .1)
-
-returns-2 : tie.Need-returns-2
-returns-2 c =
-    let s = c .before .before .before .before .before .before .before in
-    let g = s .before .before .before .before .args in
-    let r = c .refusal-number in
-    let back : toZ w32 (ofZ w32 (r .result)) ≡ r .result = search needs in (
-      ap (λ (n : ℤ). record { number = n; rp = g .rp }) (back ∙ r .ensures)
-          ∙ record-refused false (g .rp) (g .«data» .now) (g .store .now) (s .opus-repacketizer-cat .ensures .0) (c .before .before .v .given .1),
-      s .opus-repacketizer-cat .ensures .1,
-    )
+    let n = c .before .verdict-number in
+    let r = c .before .before .before .before .before .before .add in
+    let h = c .before .before .before .before .before .before .before .before .before .head-of in
+    let e = rw (headed (c .before .before .before .before .before .before .before .before .before .before .before .before .before .args .rp) (h .result) (h .ensures)) at (r .ensures) in
+    let back : toZ w32 (ofZ w32 (n .result)) ≡ n .result = search needs in
+    (record-added (r .result) (r .last .1 .0) (e .0) (back ∙ n .ensures), e .1 .0)
 
 pub cat-spec : {M : Type 1} → statement M
 cat-spec =
@@ -33,9 +24,8 @@ cat-spec =
     (tie.spec
     (λ c κs. search needs)
     (λ c. search needs)
-    (λ c. search needs)
-    (λ c. search needs)
-    returns
+    (λ c κs. search needs)
     (λ c κs. search needs)
     (λ c. search needs)
-    returns-2)
+    (λ c. search needs)
+    returns)

@@ -1,0 +1,52 @@
+-- What the inner functions answer, where a collector's lengths are lent beside the rest of it.
+use Prim.Native.Nat.{ℕ, _+_, _%_}
+use mathlib.Core.List.{List}
+use mathlib.Core.Bool.{cond}
+use lib.Dec.{eqb}
+use Rattle.opus_defines.specs.declared.Refusal.{Refusal}
+use Rattle.opus_defines.specs.declared.Verdict.the-variants.{Accepted, Refused}
+use Rattle.opus_toc.specs.Toc.{configuration, samples}
+use Rattle.opus.specs.Frames.{total, longest}
+use Rattle.repacketizer.specs.declared.OpusRepacketizer.{OpusRepacketizer}
+use Rattle.repacketizer.specs.declared.Added.{Added}
+use Rattle.repacketizer.specs.declared.Measured.{Measured}
+use Rattle.repacketizer.specs.declared.Head.{Head}
+use Rattle.repacketizer.specs.declared.Checked.{Checked}
+use Rattle.repacketizer.specs.declared.AddedHead.{AddedHead}
+use Rattle.repacketizer.specs.Collector.{heldLengths, sound}
+
+-- one pass over lengths
+abbrev pub measured : List ℕ → Measured
+measured ns = record { longest = longest ns; total = total ns % 65536 }
+
+-- a collector without its lengths
+abbrev pub headOf : OpusRepacketizer → Head
+headOf rp = record { toc = rp .toc; «nb_frames» = rp .«nb_frames»; framesize = rp .framesize }
+
+-- the collector with this head and these lengths
+abbrev pub collectorOf : Head → List ℕ → OpusRepacketizer
+collectorOf h len = record { toc = h .toc; «nb_frames» = h .«nb_frames»; framesize = h .framesize; len = len }
+
+unfoldable pub checked : OpusRepacketizer → Checked
+checked rp = record { sound = sound rp; total = cond (sound rp) (total (heldLengths rp)) 0 }
+
+abbrev pub refusedHead : Refusal → Head → AddedHead
+refusedHead e h = record { verdict = Refused e; toc = h .toc; framesize = h .framesize; count = h .«nb_frames» }
+
+-- n frames more; the first packet sets the TOC byte
+abbrev pub moreFrames : Head → ℕ → ℕ → AddedHead
+moreFrames h toc n =
+    record {
+      verdict = Accepted;
+      toc = cond (eqb (h .«nb_frames») 0) toc (h .toc);
+      framesize = cond (eqb (h .«nb_frames») 0) (record { 0 = samples 8000 (configuration toc) }) (h .framesize);
+      count = h .«nb_frames» + n;
+    }
+
+-- the answer is what is said beside the lengths, and the lengths that are left
+abbrev pub addedOf : AddedHead → List ℕ → Added
+addedOf r len =
+    record {
+      verdict = r .verdict;
+      rp = record { toc = r .toc; «nb_frames» = r .count; framesize = r .framesize; len = len };
+    }
