@@ -3,6 +3,7 @@
 --     size-passed, rate-passed     a call is passed the bits of a signed number
 --     read-few, record-read, ..    a packet that was read, by its verdict
 --     record-added                 an add, where the collector's lengths were lent
+--     record-found                 a record of a capture
 -- Assumes nothing.
 use Prim.Native.Nat.{ℕ, _-_, _≤_}
 use native.Mathlib.Omega.{arith}
@@ -34,7 +35,8 @@ use Rattle.opus.proofs.Facts.{facts}
 use Rattle.repacketizer.specs.Parts.{addedOf}
 use Rattle.repacketizer.specs.declared.Added.{Added}
 use Rattle.repacketizer.specs.declared.AddedHead.{AddedHead}
-use Rattle.aveluafi.specs.Records.{packetRecord, addRecord}
+use Rattle.capture.specs.declared.NextRecord.{NextRecord}
+use Rattle.aveluafi.specs.Records.{packetRecord, addRecord, captureRecord}
 
 -- ---- a packet that was read, with its lengths in the array l
 few : (sd : Bool) (p : List ℕ) → Bytes p → parsed sd p .count ≤ 48
@@ -94,3 +96,7 @@ rate-passed s rate f = rw (toZ-ofZ w32 rate f)
 -- ---- an add, where the collector's lengths were lent
 pub record-added : (r : AddedHead) (len : List ℕ) {a : Added} → addedOf r len ≡ a → {n : ℤ} → n ≡ verdictNumber (pos 0) (r .verdict) → record { number = n; rp = addedOf r len .rp } ≡ addRecord a
 record-added r len e m = rw m (ap addRecord e)
+
+-- ---- a record of a capture
+pub record-found : (r : NextRecord) {a : NextRecord} → r ≡ a → {n : ℤ} → n ≡ verdictNumber (pos 0) (r .verdict) → record { number = n; line = r .line; place = r .place; length = r .length; passed = r .passed } ≡ captureRecord a
+record-found r e m = rw m (ap captureRecord e)

@@ -7,7 +7,10 @@ use Rattle.repacketizer.specs.Adding.{addedNumber}
 use Rattle.repacketizer.specs.declared.Added.{Added}
 use Rattle.aveluafi.specs.declared.reading.AveluafiSize.{AveluafiSize}
 use Rattle.aveluafi.specs.declared.reading.AveluafiPacket.{AveluafiPacket}
+use Rattle.capture.specs.Finding.{recordNumber}
+use Rattle.capture.specs.declared.NextRecord.{NextRecord}
 use Rattle.aveluafi.specs.declared.collector.AddRecord.{AddRecord}
+use Rattle.aveluafi.specs.declared.captures.AveluafiRecord.{AveluafiRecord}
 
 abbrev pub sizeRecord : Size → AveluafiSize
 sizeRecord s = record { number = sizeNumber s; size = s .size }
@@ -24,3 +27,7 @@ packetRecord p =
 
 abbrev pub addRecord : Added → AddRecord
 addRecord a = record { number = addedNumber a; rp = a .rp }
+
+abbrev pub captureRecord : NextRecord → AveluafiRecord
+captureRecord r =
+    record { number = recordNumber r; line = r .line; place = r .place; length = r .length; passed = r .passed }

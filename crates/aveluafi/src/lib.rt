@@ -1,5 +1,6 @@
 // What a node links (include/aveluafi.h): every call under the prefix `aveluafi_`, for C and Rust, over the proved core. A slice is a
 // pointer and a count of bytes. The collector is lent to its calls.
+pub mod captures;
 pub mod collector;
 pub mod in_place;
 pub mod reading;

@@ -1,0 +1,12 @@
+-- What the proofs of several functions use, and what follows from the definitions alone.
+pub mod Laws
+pub mod Depth
+pub mod Written
+pub mod Answers
+pub mod Steps
+pub mod Whole
+pub mod Apart
+pub mod Resuming
+pub mod ReadBack
+pub mod Promises
+mod Examples

@@ -1,0 +1,3 @@
+pub mod Records
+pub mod Finding
+pub mod Reading

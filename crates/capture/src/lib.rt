@@ -1,0 +1,141 @@
+// Records in a capture file (document 02, M-101), and how a reader that finds none at a place seeks the next.
+//
+// A record is the mark 4B 9D, a line number of one byte, the packet's length in two, high byte first, and a packet of 1 to 65,535 bytes.
+// It stands at a place only if all of it fits.
+ghost use mathlib.Core.Path.{_≡_};
+ghost use Prim.Native.Nat.{_<_, _≤_};
+ghost use lib.ListN.{length, drop};
+ghost use Rattle.capture.specs.Finding.{packetLength, packetAt, recordFrom, nextRecord};
+use opus_defines::Refusal;
+use opus_defines::Verdict;
+
+// The bytes of a record before its packet.
+pub const HEAD_BYTES: usize = 5;
+
+// The first record at or after a place: its line, the place of its mark, the bytes of its packet. Where there is none: 0, the end, 0.
+struct Record {
+    line: u8,
+    place: usize,
+    length: usize,
+}
+
+// What `next_record` answers: a record, and the bytes passed over before it. All zeros beside a refusal.
+pub struct NextRecord {
+    pub verdict: Verdict,
+    pub line: u8,
+    pub place: usize,
+    pub length: usize,
+    pub passed: usize,
+}
+
+fn wide(b: u8) -> usize
+    ensures { λ r. ⌜ (r ≡ b) × (r < 256) ⌝ }
+{
+    b as usize
+}
+
+// The bytes of the packet of the record that stands at a place; 0 where none does.
+pub fn packet_length(data: &[u8], at: usize) -> usize
+    ensures { λ r. ⌜ r ≡ packetLength (drop at (now («data» .entry))) ⌝ }
+{
+    if data.len() <= at {
+        return 0;
+    }
+    let left = data.len() - at;
+    if left < HEAD_BYTES {
+        return 0;
+    }
+    if data[at] != 0x4B {
+        return 0;
+    }
+    if data[at + 1] != 0x9D {
+        return 0;
+    }
+    let n = 256 * wide(data[at + 3]) + wide(data[at + 4]);
+    if left - HEAD_BYTES < n {
+        return 0;
+    }
+    n
+}
+
+// The packet of the record that stands at a place, lent on as a part of the capture; no byte where none does.
+pub fn packet_at<'a>(data: &'a [u8], at: usize) -> &'a [u8]
+    ensures { λ r. ⌜ now r ≡ packetAt (now («data» .entry)) at ⌝ }
+{
+    let n = packet_length(data, at);
+    if n == 0 {
+        return &data[0..0];
+    }
+    let first = at + HEAD_BYTES;
+    &data[first..first + n]
+}
+
+// The record at a place, or else the first one after it.
+fn record_at(data: &[u8], at: usize) -> Record
+    requires { ⌜ at < length (now «data») ⌝ }
+    ensures { λ r. ⌜ r ≡ recordFrom (now («data» .entry)) at ⌝ }
+{
+    let n = packet_length(data, at);
+    if n != 0 {
+        return Record {
+            line: data[at + 2],
+            place: at,
+            length: n,
+        };
+    }
+    seek_mark(data, at + 1)
+}
+
+// The first record at or after a place. Places where none stands are passed over in a loop, and only one where one stands is handed to
+// `record_at`, which then answers without a further call: so the calls are never nested deeper than three, whatever the bytes are.
+fn seek_mark(data: &[u8], at: usize) -> Record
+    requires { ⌜ at ≤ length (now «data») ⌝ }
+    ensures { λ r. ⌜ r ≡ recordFrom (now («data» .entry)) at ⌝ }
+{
+    let mut place = at;
+    while place < data.len() {
+        if packet_length(data, place) != 0 {
+            return record_at(data, place);
+        }
+        place += 1;
+    }
+    Record {
+        line: 0,
+        place,
+        length: 0,
+    }
+}
+
+fn first_record(data: &[u8], start: usize) -> Record
+    requires { ⌜ start ≤ length (now «data») ⌝ }
+    ensures { λ r. ⌜ r ≡ recordFrom (now («data» .entry)) start ⌝ }
+{
+    if start < data.len() {
+        record_at(data, start)
+    } else {
+        seek_mark(data, start)
+    }
+}
+
+// The next record from a start place on; BadArg where that lies past the end.
+pub fn next_record(data: &[u8], start: usize) -> NextRecord
+    ensures { λ r. ⌜ r ≡ nextRecord (now («data» .entry)) start ⌝ }
+{
+    if data.len() < start {
+        return NextRecord {
+            verdict: Verdict::Refused(Refusal::BadArg),
+            line: 0,
+            place: 0,
+            length: 0,
+            passed: 0,
+        };
+    }
+    let r = first_record(data, start);
+    NextRecord {
+        verdict: Verdict::Accepted,
+        line: r.line,
+        place: r.place,
+        length: r.length,
+        passed: r.place - start,
+    }
+}
