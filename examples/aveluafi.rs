@@ -54,6 +54,15 @@ pub struct Packet {
     pub packet_offset: usize,
 }
 
+#[repr(C)]
+struct RawRecord {
+    number: i32,
+    line: u8,
+    place: usize,
+    length: usize,
+    passed: usize,
+}
+
 #[link(name = "aveluafi", kind = "static")]
 extern "C" {
     fn aveluafi_packet_parse_impl(data: *const u8, data_len: usize, self_delimited: bool) -> Packet;
@@ -72,6 +81,7 @@ extern "C" {
     ) -> i32;
     fn aveluafi_packet_pad(data: *mut u8, data_len: usize, len: i32, new_len: i32) -> i32;
     fn aveluafi_packet_unpad(data: *mut u8, data_len: usize, len: i32) -> i32;
+    fn aveluafi_next_record(data: *const u8, data_len: usize, start: usize) -> RawRecord;
 }
 
 /// Reads the packet at the front of `data`: an ordinary one takes all of it, a self-delimited one ends where it says.
@@ -134,4 +144,28 @@ impl<'a> Collector<'a> {
         let (begin, end) = (length(frames.start), length(frames.end));
         answer(unsafe { aveluafi_repacketizer_out_range(&self.rp, store, n, begin, end, data.as_mut_ptr(), data.len()) })
     }
+}
+
+/// A record of a capture file, its packet a part of the capture.
+pub struct Record<'a> {
+    pub line: u8,
+    /// Of its mark.
+    pub place: usize,
+    pub packet: &'a [u8],
+    /// Bytes passed over before it.
+    pub passed: usize,
+}
+
+/// The bytes of a record before its packet.
+pub const RECORD_HEAD: usize = 5;
+
+/// The next record at or after `start`, or how many bytes are passed over up to the end where there is none.
+pub fn next_record(capture: &[u8], start: usize) -> Result<Result<Record<'_>, usize>, Refusal> {
+    let r = unsafe { aveluafi_next_record(capture.as_ptr(), capture.len(), start) };
+    answer(r.number)?;
+    if r.length == 0 {
+        return Ok(Err(r.passed));
+    }
+    let packet = &capture[r.place + RECORD_HEAD..][..r.length];
+    Ok(Ok(Record { line: r.line, place: r.place, packet, passed: r.passed }))
 }

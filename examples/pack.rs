@@ -1,6 +1,7 @@
 //! Packs three packets into one, sees a fourth refused, pads and strips the packet in place, reads its frames back and cuts one out again,
 //! through the safe wrapper in aveluafi.rs. examples/run builds and runs it; pack.c does the same in C and prints the same text.
 
+#[allow(dead_code)]
 mod aveluafi;
 use aveluafi::{pad, read, unpad, Collector, Refusal, LEAST_STORE};
 

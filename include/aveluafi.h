@@ -1,4 +1,4 @@
-/* Aveluafi: Opus packets packed into longer ones, cut again, padded and stripped of padding.
+/* Aveluafi: Opus packets packed into longer ones, cut again, padded and stripped of padding; and found in capture files.
  *
  * The C interface of the proved archive libaveluafi.a (`rt staticlib aveluafi`, x86-64 Linux). Names follow unopus 0.0.1 and libopus, under a
  * prefix of their own, so that a program can link libopus too.
@@ -29,7 +29,7 @@ extern "C" {
 
 #define AVELUAFI_OK 0                 /* added, padded, nothing to pad */
 #define AVELUAFI_BAD_ARG (-1)         /* an argument outside its bound; an empty packet for samples, frame count, pad or unpad; a range that is not
-                                         0 <= begin < end <= frames held; a store under 61,200 bytes */
+                                         0 <= begin < end <= frames held; a store under 61,200 bytes; a start past a capture's end */
 #define AVELUAFI_BUFFER_TOO_SMALL (-2) /* the output is longer than the destination */
 #define AVELUAFI_INTERNAL_ERROR (-3)  /* unpad would have made the packet longer; proved never to happen */
 #define AVELUAFI_INVALID_PACKET (-4)  /* the packet breaks a rule of RFC 6716; its upper six TOC bits are not those held; over 120 ms held */
@@ -133,6 +133,25 @@ int32_t aveluafi_multistream_packet_pad(uint8_t *data, size_t data_len, int32_t 
 
 /* Every stream is brought into its shortest form; answers the bytes of all. All streams are read before the first is rewritten. */
 int32_t aveluafi_multistream_packet_unpad(uint8_t *data, size_t data_len, int32_t len, int32_t nb_streams);
+
+/* ---- capture files
+ *
+ * A record is the mark 4B 9D, a line number in one byte, the packet's length in two, high byte first, and the packet, of 1 to 65,535 bytes. It
+ * stands at a place only if all of it fits. Where none stands the reader passes over one byte at a time. */
+
+#define AVELUAFI_RECORD_HEAD 5        /* bytes of a record before its packet, which stands at data + place + 5 */
+
+struct aveluafi_record {
+    int32_t number;                   /* 0, or the refusal; beside a refusal every other field is 0 */
+    uint8_t line;
+    size_t place;                     /* of the mark; where no record is left, data_len */
+    size_t length;                    /* bytes of the packet; where no record is left, 0 */
+    size_t passed;                    /* bytes passed over, from start up to place */
+};
+
+/* The next record at or after start; go on from place + AVELUAFI_RECORD_HEAD + length. -1 where start is past data_len. A capture may have any
+ * length. The stack that the call takes does not grow with it. */
+struct aveluafi_record aveluafi_next_record(const uint8_t *data, size_t data_len, size_t start);
 
 #ifdef __cplusplus
 }
