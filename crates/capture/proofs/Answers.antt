@@ -2,8 +2,9 @@
 --     next-begins, next-place-le, next-within     where it begins, and that it ends within the capture
 --     next-stands, next-nothing, next-end, next-moves     where a record stands and where none does
 --     next-again     the answer at a place between
+--     found, none-behind     the same for any place, as a caller has it: an answer that is a record lies behind the place and within
 -- Assumes nothing.
-use mathlib.Core.Path.{_≡_, refl}
+use mathlib.Core.Path.{_≡_, refl, ap}
 use mathlib.Core.Logic.{⊎-elim}
 use mathlib.Core.List.{List, [], _∷_}
 use mathlib.Core.Bool.{Bool, true, false}
@@ -12,12 +13,13 @@ use native.Mathlib.Nat.{eq-or-lt-of-le}
 use native.Mathlib.Omega.{arith}
 use lib.ListN.{length, drop, length-drop}
 use lib.Seq.{drop-length, drop-nil, drop-drop}
-use lib.Dec.{eqb}
-use borrow.Author.Tests.{eqb-true, eqb-false, ne-eqb}
+use lib.Dec.{eqb, ltb}
+use borrow.Author.Tests.{eqb-true, eqb-false, ne-eqb, ltb-true, ltb-false}
+use Rattle.laws.proofs.Never.{by-test}
 use Rattle.capture.specs.declared.NextRecord.{NextRecord}
 use Rattle.capture.specs.Finding.{packetLength, before, recordFrom, nextRecord}
 use Rattle.capture.specs.Reading.{recordBytes, behind, begins}
-use Rattle.capture.proofs.Laws.{before-here, before-later, before-le, within, next-is}
+use Rattle.capture.proofs.Laws.{before-here, before-later, before-le, within, next-is, next-refused}
 
 -- an answer as a place k before its record gives it
 abbrev pub seenFrom : ℕ → NextRecord → NextRecord
@@ -133,3 +135,28 @@ module _ (s : List ℕ) (at : ℕ) (inside : at ≤ length s) where
       let same : k + before (drop k s) ≡ at + before l = omega (arith, next-place) in
       let fewer′ : before (drop k s) ≡ at + before l - k = omega (arith, next-place) in
       rw (next-is s k (omega (arith, next-place-le)), next-is s at inside, same, fewer′)
+
+-- ---- an answer that is a record, whatever place was asked for
+pub record Found (s : List ℕ) (at : ℕ) (a : NextRecord) : Type 0 where
+  pub asked : at ≤ length s
+  pub from : at ≤ a .place
+  pub some : 1 ≤ a .length
+  pub inside : behind a ≤ length s
+  pub next : behind a ≡ a .place + 5 + a .length
+
+pub found : (s : List ℕ) (at : ℕ) → (nextRecord s at .length ≡ 0 → ⊥) → Found s at (nextRecord s at)
+found s at f =
+    let inside : at ≤ length s = by-test (ltb (length s) at) (λ t. absurd (f (ap (λ (a : NextRecord). a .length) (next-refused s at (ltb-true (length s) at t))))) (λ t. ltb-false (length s) at t) in
+    record {
+      asked = inside;
+      from = next-from s at inside;
+      some = omega arith;
+      inside = next-within s at inside f;
+      next = omega (arith, all-bytes (nextRecord s at) f);
+    }
+
+-- at the end, and past it, there is none
+pub none-behind : (s : List ℕ) (at : ℕ) → length s ≤ at → nextRecord s at .length ≡ 0
+none-behind s at h =
+    by-test (eqb (nextRecord s at .length) 0) (λ t. eqb-true (nextRecord s at .length) 0 t)
+    (λ t. let f = found s at (eqb-false (nextRecord s at .length) 0 t) in absurd (omega (arith, f .from, f .some, f .inside, f .next)))

@@ -5,13 +5,13 @@
 -- Assumes nothing.
 use Prim.Native.Nat.{ℕ, _+_, _*_, _≤_, _<_}
 use native.Mathlib.Omega.{arith}
-use mathlib.Core.Path.{_≡_, refl, sym}
+use mathlib.Core.Path.{_≡_, refl}
 use mathlib.Core.List.{List}
 use mathlib.Core.Bool.{false}
 use lib.Dec.{ltb}
 use lib.IntN.{ℤ, pos}
 use lib.ListN.{length}
-use lib.Seq.{sets, length-sets, length-take-le}
+use lib.Seq.{sets}
 use mir.Syntax.{w32}
 use mir.Val.{toZ, ofZ}
 use borrow.Author.Tests.{le-ltb}
@@ -20,7 +20,6 @@ use Rattle.laws.specs.Bytes.{Bytes}
 use Rattle.laws.proofs.Never.{never, by-test}
 use Rattle.opus_defines.specs.Numbers.{refusalNumber, verdictNumber}
 use Rattle.opus_defines.specs.declared.Refusal.{Refusal}
-use Rattle.opus_defines.specs.declared.Refusal.the-variants.{BadArg, BufferTooSmall, InternalError, InvalidPacket, InvalidState}
 use Rattle.opus_defines.specs.declared.Verdict.the-variants.{Accepted, Refused}
 use Rattle.opus_size.specs.Size.{mostBytes}
 use Rattle.opus_toc.specs.Toc.{upperSix, configuration, samples}
@@ -34,17 +33,15 @@ use Rattle.opus_header.specs.Sums.{sumsOf}
 use Rattle.opus_header.specs.Forms.{compactBytes}
 use Rattle.opus_header.proofs.Forms.{compact-front, sums-few}
 use Rattle.packet_pad.proofs.Framed.{compact-needs}
-use Rattle.listing_text.specs.Listing.{time, packetText, refusal, listed, listing}
+use Rattle.show.specs.Text.{refusal}
+use Rattle.show.proofs.Laid.{front-counts}
+use Rattle.show.proofs.Refusals.{refusal-passed, refusal-most}
+use Rattle.listing_text.specs.Listing.{time, packetText, listed, listing}
 use Rattle.listing_text.proofs.Frames.{busy-time}
-use Rattle.listing_text.proofs.Room.{packet-most, refusal-most}
-
-counts : (l t : List ℕ) → length t ≤ length l → Counts (length t) (sets l 0 t)
-counts l t h =
-    let within : length t ≤ length (sets l 0 t) = simp length-sets h in
-    (within, sym (length-take-le (length t) (sets l 0 t) within))
+use Rattle.listing_text.proofs.Room.{packet-most}
 
 pub answers : (l p t : List ℕ) {d : List ℕ} {n : ℕ} → listing p ≡ t → length t ≤ length l → d ≡ sets l 0 t → n ≡ length t → (d ≡ sets l 0 (listing p)) × ((n ≡ length (listing p)) × Counts n d)
-answers l p t e h b n = rw e (b, (n, rw (b, n) (counts l t h)))
+answers l p t e h b n = rw e (b, (n, rw (b, n) (front-counts l t h)))
 
 -- ---- a packet p that was read, with the reader's answer r
 -- the bytes of its compact packet, as they are counted
@@ -81,14 +78,6 @@ listing-read p r bytes e v =
     }
 
 -- ---- a packet that was refused
--- a call is passed the bits of the number
-refusal-passed : (e : Refusal) → toZ w32 (ofZ w32 (refusalNumber e)) ≡ refusalNumber e
-refusal-passed BadArg = refl
-refusal-passed BufferTooSmall = refl
-refusal-passed InternalError = refl
-refusal-passed InvalidPacket = refl
-refusal-passed InvalidState = refl
-
 module _ (r : Packet) (c : Refusal) (v : r .verdict ≡ Refused c) (x : ℤ) (n : x ≡ verdictNumber (pos 0) (r .verdict)) where
   number-is : toZ w32 (ofZ w32 x) ≡ refusalNumber c
   number-is = rw (n, v) (refusal-passed c)

@@ -4,14 +4,11 @@ use Prim.Native.Nat.{ℕ, suc, _+_, _*_, _≤_, _<_}
 use native.Mathlib.Omega.{arith}
 use mathlib.Core.List.{List, [], _∷_, _++_}
 use lib.ListN.{length, length-append}
-use Rattle.opus_defines.specs.Numbers.{refusalNumber}
-use Rattle.opus_defines.specs.declared.Refusal.{Refusal}
-use Rattle.opus_defines.specs.declared.Refusal.the-variants.{BadArg, BufferTooSmall, InternalError, InvalidPacket, InvalidState}
 use Rattle.opus.specs.Frames.{total}
-use Rattle.show.specs.Text.{decimal, integer}
+use Rattle.show.specs.Text.{decimal}
 use Rattle.show.proofs.Digits.{decimal-most}
-use Rattle.listing_text.specs.Labels.{tocLabel, countLabel, timeLabel, payloadLabel, packetLabel, compactLabel, frameLabel, atLabel, lengthLabel, refusedLabel}
-use Rattle.listing_text.specs.Listing.{line, time, frameLine, frameLines, times, sizes, packetText, refusal}
+use Rattle.listing_text.specs.Labels.{tocLabel, countLabel, timeLabel, payloadLabel, packetLabel, compactLabel, frameLabel, atLabel, lengthLabel}
+use Rattle.listing_text.specs.Listing.{line, time, frameLine, frameLines, times, sizes, packetText}
 
 digits-most : (n : ℕ) → n < 100000 → length (decimal n) ≤ 5
 digits-most n h = decimal-most n 4 h
@@ -45,16 +42,3 @@ pub packet-most : (toc : ℕ) (ns : List ℕ) (first taken small : ℕ) → toc 
 unfolding packetText
 packet-most toc ns first taken small h k m f t s =
     simp length-append (omega (arith, times-most toc ns h k m, sizes-most first taken small (omega arith) t s, lines-most 0 first ns (omega arith) f))
-
--- a refusal's number has one digit
-negative-most : (n : ℕ) → n < 100000 → length (refusedLabel ++ (45 ∷ decimal n ++ (10 ∷ []))) ≤ 2048
-unfolding refusedLabel
-negative-most n h = simp length-append (omega (arith, digits-most n h))
-
-pub refusal-most : (e : Refusal) → length (refusal (refusalNumber e)) ≤ 2048
-unfolding refusal integer
-refusal-most BadArg = negative-most 1 (omega arith)
-refusal-most BufferTooSmall = negative-most 2 (omega arith)
-refusal-most InternalError = negative-most 3 (omega arith)
-refusal-most InvalidPacket = negative-most 4 (omega arith)
-refusal-most InvalidState = negative-most 6 (omega arith)

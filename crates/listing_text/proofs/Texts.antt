@@ -3,15 +3,11 @@
 use Prim.Native.Nat.{ℕ, _+_, _≤_}
 use mathlib.Core.Path.{_≡_, refl}
 use mathlib.Core.List.{List, [], _∷_, _++_, append-assoc}
-use lib.IntN.{ℤ}
 use lib.ListN.{length}
-use mir.Syntax.{w32}
-use mir.Val.{toZ, ofZ, SFits}
-use mir.ValLaws.{toZ-ofZ}
-use Rattle.show.specs.Text.{decimal, integer}
+use Rattle.show.specs.Text.{decimal}
 use Rattle.show.proofs.Laid.{Three, front-room}
-use Rattle.listing_text.specs.Labels.{tocLabel, countLabel, timeLabel, payloadLabel, packetLabel, compactLabel, frameLabel, atLabel, lengthLabel, refusedLabel}
-use Rattle.listing_text.specs.Listing.{line, time, frameLine, frameLines, times, sizes, packetText, refusal}
+use Rattle.listing_text.specs.Labels.{tocLabel, countLabel, timeLabel, payloadLabel, packetLabel, compactLabel, frameLabel, atLabel, lengthLabel}
+use Rattle.listing_text.specs.Listing.{line, time, frameLine, frameLines, times, sizes, packetText}
 
 pub line-parts : (label : List ℕ) (n : ℕ) → line label n ≡ (label ++ decimal n) ++ (10 ∷ [])
 unfolding line
@@ -32,11 +28,6 @@ pub times-parts : (l : List ℕ) (toc : ℕ) (ns : List ℕ) {t : ℕ} → t ≡
     → Three l 0 (times toc ns) (line tocLabel toc) (line countLabel (length ns)) (line timeLabel t)
 unfolding times
 times-parts l toc ns e h = record { whole = rw e; room = front-room l (times toc ns) h }
-
--- a call is passed the bits of the number
-pub refusal-parts : (l : List ℕ) (x : ℤ) → SFits w32 x → length (refusal x) ≤ length l → Three l 0 (refusal x) refusedLabel (integer (toZ w32 (ofZ w32 x))) (10 ∷ [])
-unfolding refusal
-refusal-parts l x f h = record { whole = rw (toZ-ofZ w32 x f); room = front-room l (refusal x) h }
 
 pub packet-parts : (l : List ℕ) (toc : ℕ) (ns : List ℕ) (first taken : ℕ) {small n : ℕ} → n ≡ small → length (packetText toc ns first taken small) ≤ length l
     → Three l 0 (packetText toc ns first taken small) (times toc ns) (sizes first taken n) (frameLines 0 first ns)

@@ -37,7 +37,3 @@ atLabel = 32 ∷ 97 ∷ 116 ∷ 32 ∷ []
 -- " length "
 unfoldable pub lengthLabel : List ℕ
 lengthLabel = 32 ∷ 108 ∷ 101 ∷ 110 ∷ 103 ∷ 116 ∷ 104 ∷ 32 ∷ []
-
--- "refused "
-unfoldable pub refusedLabel : List ℕ
-refusedLabel = 114 ∷ 101 ∷ 102 ∷ 117 ∷ 115 ∷ 101 ∷ 100 ∷ 32 ∷ []

@@ -3,7 +3,6 @@ use Prim.Native.Nat.{ℕ, suc, _+_, _*_}
 use mathlib.Core.List.{List, [], _∷_, _++_}
 use mathlib.Core.Bool.{false, cond}
 use lib.Dec.{ltb, eqb}
-use lib.IntN.{ℤ}
 use lib.ListN.{length, drop}
 use Rattle.opus_defines.specs.Numbers.{refusalNumber}
 use Rattle.opus_defines.specs.declared.Refusal.{Refusal}
@@ -12,8 +11,8 @@ use Rattle.opus_toc.specs.Toc.{upperSix, configuration, samples}
 use Rattle.opus.specs.Frames.{cut}
 use Rattle.opus.specs.Reading.{Reading, refused, accepted, read}
 use Rattle.opus_header.specs.Compact.{compact}
-use Rattle.show.specs.Text.{decimal, integer}
-use Rattle.listing_text.specs.Labels.{tocLabel, countLabel, timeLabel, payloadLabel, packetLabel, compactLabel, frameLabel, atLabel, lengthLabel, refusedLabel}
+use Rattle.show.specs.Text.{decimal, refusal}
+use Rattle.listing_text.specs.Labels.{tocLabel, countLabel, timeLabel, payloadLabel, packetLabel, compactLabel, frameLabel, atLabel, lengthLabel}
 
 -- a label and a number
 unfoldable pub line : List ℕ → ℕ → List ℕ
@@ -51,9 +50,6 @@ unfoldable pub packetText : ℕ → List ℕ → ℕ → ℕ → ℕ → List �
 packetText toc ns first taken small = times toc ns ++ (sizes first taken small ++ frameLines 0 first ns)
 
 -- ---- a packet that was refused
-unfoldable pub refusal : ℤ → List ℕ
-refusal number = refusedLabel ++ (integer number ++ (10 ∷ []))
-
 abbrev pub refusedLine : Refusal → List ℕ
 refusedLine e = refusal (refusalNumber e)
 

@@ -13,7 +13,7 @@ ghost use Rattle.opus.specs.Frames.{total, longest};
 ghost use Rattle.opus_header.specs.Sums.{sumsOf};
 ghost use Rattle.opus_header.specs.Forms.{compactBytes};
 ghost use Rattle.show.specs.Text.{decimal};
-ghost use Rattle.listing_text.specs.Listing.{line, busy, time, frameLine, frameLines, times, sizes, packetText, refusal};
+ghost use Rattle.listing_text.specs.Listing.{line, busy, time, frameLine, frameLines, times, sizes, packetText};
 ghost use Rattle.listing_text.specs.Listing.{listing as Listing·listing};
 use opus_defines::Verdict;
 
@@ -148,18 +148,6 @@ fn put_packet(out: &mut [u8], toc: u8, ns: &[u16], first: usize, taken: usize) -
     put_frames(out, at, first, ns)
 }
 
-// ---- a packet that was refused
-
-fn put_refused(out: &mut [u8], number: i32) -> usize
-    requires { ⌜ length (refusal number) ≤ length (now out) ⌝ }
-    ensures bytes { λ _. ⌜ now (out .exit) ≡ sets (now (out .entry)) 0 (refusal number) ⌝ }
-    ensures next { λ r. ⌜ r ≡ length (refusal number) ⌝ }
-{
-    let mut at = show::put_text(out, 0, b"refused ");
-    at = show::put_number(out, at, number);
-    show::put_text(out, at, b"\n")
-}
-
 // ---- the listing
 
 // Puts the listing of a packet at the front of `out`, and answers its bytes.
@@ -172,7 +160,7 @@ pub fn listing(data: &[u8], out: &mut [u8]) -> usize
     let p = opus::opus_packet_parse(data);
     let v = p.verdict;
     let Verdict::Accepted = v else {
-        return put_refused(out, opus_defines::verdict_number(opus_defines::OPUS_OK, v));
+        return show::put_refused(out, opus_defines::verdict_number(opus_defines::OPUS_OK, v));
     };
     let n = p.count;
     let lengths = p.lengths;

@@ -4,15 +4,16 @@
 --     laid-first, laid-room   room for two texts is room for the first, and then for the second
 --     laid-then               the two are one text
 --     copied-whole            a copy of the whole text
---     front-room .. front-ends     the same at place 0
+--     front-room .. front-counts   the same at place 0, and its count
 --     Three .. three-laid     three texts
 -- Assumes nothing.
 use Prim.Native.Nat.{ℕ, _+_, _≤_}
 use native.Mathlib.Omega.{arith}
-use mathlib.Core.Path.{_≡_, ap, _∙_}
+use mathlib.Core.Path.{_≡_, sym, ap, _∙_}
 use mathlib.Core.List.{List, _++_}
 use lib.ListN.{length, length-append}
-use lib.Seq.{sets, length-sets, take-length}
+use lib.Seq.{sets, length-sets, length-take-le, take-length}
+use Rattle.io.specs.Counts.{Counts}
 use Rattle.blocks.specs.Blocks.{copied}
 use Rattle.blocks.proofs.Sets.{sets-append}
 
@@ -52,6 +53,11 @@ front-laid l a e g = record { bytes = e; place = omega arith }
 
 pub front-ends : {l a d : List ℕ} {next : ℕ} → Laid l 0 a d next → (d ≡ sets l 0 a) × (next ≡ length a)
 front-ends k = (k .bytes, omega arith)
+
+pub front-counts : (l a : List ℕ) → length a ≤ length l → Counts (length a) (sets l 0 a)
+front-counts l a h =
+    let within : length a ≤ length (sets l 0 a) = simp length-sets h in
+    (within, sym (length-take-le (length a) (sets l 0 a) within))
 
 -- ---- three texts, for which there is room
 pub record Three (l : List ℕ) (at : ℕ) (t a b c : List ℕ) : Type 0 where

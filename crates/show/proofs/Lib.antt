@@ -1,3 +1,4 @@
 pub mod Laid
 pub mod Digits
 pub mod Signed
+pub mod Refusals

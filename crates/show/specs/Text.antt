@@ -1,6 +1,6 @@
--- Numbers as text, in ASCII.
+-- Numbers and refusals as text, in ASCII.
 use Prim.Native.Nat.{ℕ, zero, suc, _/_}
-use mathlib.Core.List.{List, _∷_}
+use mathlib.Core.List.{List, [], _∷_, _++_}
 use mathlib.Core.Bool.{cond}
 use lib.Dec.{ltb}
 use lib.IntN.{ℤ, pos, negsuc}
@@ -19,3 +19,11 @@ decimal n = digits 10 (places n n) n
 unfoldable pub integer : ℤ → List ℕ
 integer (pos n) = decimal n
 integer (negsuc n) = 45 ∷ decimal (suc n)
+
+-- "refused "
+unfoldable pub refusedLabel : List ℕ
+refusedLabel = 114 ∷ 101 ∷ 102 ∷ 117 ∷ 115 ∷ 101 ∷ 100 ∷ 32 ∷ []
+
+-- the line for what is refused, with the refusal's number; 10 is the end of a line
+unfoldable pub refusal : ℤ → List ℕ
+refusal number = refusedLabel ++ (integer number ++ (10 ∷ []))

@@ -4,7 +4,7 @@ ghost use Prim.Native.Nat.{_+_, _≤_};
 ghost use lib.IntN.{natAbs};
 ghost use lib.ListN.{length};
 ghost use lib.Seq.{sets};
-ghost use Rattle.show.specs.Text.{decimal as Text·decimal, integer};
+ghost use Rattle.show.specs.Text.{decimal as Text·decimal, integer, refusal};
 use libc::STDOUT_FILENO;
 use opus_defines::Count;
 
@@ -92,4 +92,15 @@ pub fn put_number(out: &mut [u8], at: usize, x: i32) -> usize
         return put_decimal(out, next, magnitude(x));
     }
     put_decimal(out, at, magnitude(x))
+}
+
+// The line for what is refused, at the front of `out`.
+pub fn put_refused(out: &mut [u8], number: i32) -> usize
+    requires { ⌜ length (refusal number) ≤ length (now out) ⌝ }
+    ensures bytes { λ _. ⌜ now (out .exit) ≡ sets (now (out .entry)) 0 (refusal number) ⌝ }
+    ensures next { λ r. ⌜ r ≡ length (refusal number) ⌝ }
+{
+    let mut at = put_text(out, 0, b"refused ");
+    at = put_number(out, at, number);
+    put_text(out, at, b"\n")
 }

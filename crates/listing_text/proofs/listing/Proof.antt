@@ -7,7 +7,8 @@ use mir.Syntax.{w32}
 use mir.Val.{toZ, ofZ}
 use borrow.Author.Needs.{needs}
 use Rattle.opus.proofs.Parsed.{lengthsOf}
-use Rattle.listing_text.specs.Listing.{packetText, refusal}
+use Rattle.show.specs.Text.{refusal}
+use Rattle.listing_text.specs.Listing.{packetText}
 use Rattle.listing_text.proofs.Answers.{answers, small, Read, listing-read, refused-room, listing-refused}
 use Rattle.listing_text.proofs.listing.Statement.{statement}
 use Rattle.listing_text.proofs.listing.Tie as tie

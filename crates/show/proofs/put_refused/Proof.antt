@@ -1,14 +1,13 @@
--- `listing_text::put_refused` meets its contract: the word, the number and the end of the line.
+-- `show::put_refused` meets its contract: the word, the number and the end of the line.
 -- Assumes nothing.
 use mir.Syntax.{w32}
 use mir.Val.{toZ, ofZ}
 use borrow.Author.Needs.{needs}
-use Rattle.show.specs.Text.{integer}
+use Rattle.show.specs.Text.{integer, refusedLabel}
 use Rattle.show.proofs.Laid.{Laid, front-ends, first-room, second-room, third-room, three-laid}
-use Rattle.listing_text.specs.Labels.{refusedLabel}
-use Rattle.listing_text.proofs.Texts.{refusal-parts}
-use Rattle.listing_text.proofs.put_refused.Statement.{statement}
-use Rattle.listing_text.proofs.put_refused.Tie as tie
+use Rattle.show.proofs.Refusals.{refusal-parts}
+use Rattle.show.proofs.put_refused.Statement.{statement}
+use Rattle.show.proofs.put_refused.Tie as tie
 
 put-text-requires : tie.Need-put-text-requires
 unfolding refusedLabel

@@ -1,0 +1,6 @@
+pub mod Line
+pub mod Parts
+pub mod Filled
+pub mod Ends
+pub mod Readings
+pub mod Promises

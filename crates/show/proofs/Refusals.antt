@@ -1,0 +1,42 @@
+-- The line for a refusal: its parts, its length, and its number as a call is passed it.
+-- Assumes nothing.
+use Prim.Native.Nat.{ℕ, _≤_, _<_}
+use native.Mathlib.Omega.{arith}
+use mathlib.Core.Path.{_≡_, refl}
+use mathlib.Core.List.{List, [], _∷_, _++_}
+use lib.IntN.{ℤ}
+use lib.ListN.{length, length-append}
+use mir.Syntax.{w32}
+use mir.Val.{toZ, ofZ, SFits}
+use mir.ValLaws.{toZ-ofZ}
+use Rattle.opus_defines.specs.Numbers.{refusalNumber}
+use Rattle.opus_defines.specs.declared.Refusal.{Refusal}
+use Rattle.opus_defines.specs.declared.Refusal.the-variants.{BadArg, BufferTooSmall, InternalError, InvalidPacket, InvalidState}
+use Rattle.show.specs.Text.{decimal, integer, refusedLabel, refusal}
+use Rattle.show.proofs.Laid.{Three, front-room}
+use Rattle.show.proofs.Digits.{decimal-most}
+
+-- a call is passed the bits of the number
+pub refusal-parts : (l : List ℕ) (x : ℤ) → SFits w32 x → length (refusal x) ≤ length l → Three l 0 (refusal x) refusedLabel (integer (toZ w32 (ofZ w32 x))) (10 ∷ [])
+unfolding refusal
+refusal-parts l x f h = record { whole = rw (toZ-ofZ w32 x f); room = front-room l (refusal x) h }
+
+pub refusal-passed : (e : Refusal) → toZ w32 (ofZ w32 (refusalNumber e)) ≡ refusalNumber e
+refusal-passed BadArg = refl
+refusal-passed BufferTooSmall = refl
+refusal-passed InternalError = refl
+refusal-passed InvalidPacket = refl
+refusal-passed InvalidState = refl
+
+-- a refusal's number has one digit
+negative-most : (n : ℕ) → n < 10 → length (refusedLabel ++ (45 ∷ decimal n ++ (10 ∷ []))) ≤ 11
+unfolding refusedLabel
+negative-most n h = simp length-append (omega (arith, decimal-most n 0 h))
+
+pub refusal-most : (e : Refusal) → length (refusal (refusalNumber e)) ≤ 11
+unfolding refusal integer
+refusal-most BadArg = negative-most 1 (omega arith)
+refusal-most BufferTooSmall = negative-most 2 (omega arith)
+refusal-most InternalError = negative-most 3 (omega arith)
+refusal-most InvalidPacket = negative-most 4 (omega arith)
+refusal-most InvalidState = negative-most 6 (omega arith)
