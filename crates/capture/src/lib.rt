@@ -41,11 +41,12 @@ pub fn packet_length(data: &[u8], at: usize) -> usize
     if data.len() <= at {
         return 0;
     }
-    let left = data.len() - at;
-    if left < HEAD_BYTES {
+    // First of all, since it is what most places fail on that are passed over.
+    if data[at] != 0x4B {
         return 0;
     }
-    if data[at] != 0x4B {
+    let left = data.len() - at;
+    if left < HEAD_BYTES {
         return 0;
     }
     if data[at + 1] != 0x9D {
