@@ -26,12 +26,12 @@ use Rattle.opus_size.specs.Size.{Field, noField, field, lengthField, readField}
 use Rattle.opus_size.specs.Answers.{encodeSize, sizeOf, parseSize}
 use Rattle.opus_size.proofs.Fields.{width, field-was}
 use Rattle.opus_toc.specs.Answers.{samplesPerFrame}
-use Rattle.opus.specs.Reading.{Reading, refused, accepted, read}
+use Rattle.opus_format.specs.Reading.{Reading, refused, accepted, read}
 use Rattle.opus.specs.Answers.{noPacket, packetOf, parsed, answerOf}
 use Rattle.opus.specs.declared.Packet.{Packet}
 use Rattle.opus.specs.declared.PacketHead.{PacketHead}
 use Rattle.opus.proofs.Lent.{lent-accepted}
-use Rattle.opus.proofs.Facts.{facts}
+use Rattle.opus_format.proofs.Facts.{facts}
 use Rattle.repacketizer.specs.Parts.{addedOf}
 use Rattle.repacketizer.specs.declared.Added.{Added}
 use Rattle.repacketizer.specs.declared.AddedHead.{AddedHead}

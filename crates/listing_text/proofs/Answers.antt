@@ -23,11 +23,11 @@ use Rattle.opus_defines.specs.declared.Refusal.{Refusal}
 use Rattle.opus_defines.specs.declared.Verdict.the-variants.{Accepted, Refused}
 use Rattle.opus_size.specs.Size.{mostBytes}
 use Rattle.opus_toc.specs.Toc.{upperSix, configuration, samples}
-use Rattle.opus.specs.Frames.{total, longest}
-use Rattle.opus.specs.Reading.{Reading, refused, accepted, read}
+use Rattle.opus_format.specs.Frames.{total, longest}
+use Rattle.opus_format.specs.Reading.{Reading, refused, accepted, read}
 use Rattle.opus.specs.Answers.{packetOf, parsed}
 use Rattle.opus.specs.declared.Packet.{Packet}
-use Rattle.opus.proofs.Facts.{facts}
+use Rattle.opus_format.proofs.Facts.{facts}
 use Rattle.opus.proofs.Parsed.{lengthsOf, parsed-accepted}
 use Rattle.opus_header.specs.Sums.{sumsOf}
 use Rattle.opus_header.specs.Forms.{compactBytes}

@@ -4,7 +4,7 @@ use Prim.Native.Nat.{ℕ}
 use mathlib.Core.Path.{_≡_, refl}
 use mathlib.Core.List.{List, [], _∷_}
 use Rattle.opus_toc.specs.Toc.{duration, samples}
-use Rattle.opus.specs.Reading.{read}
+use Rattle.opus_format.specs.Reading.{read}
 use Rattle.opus_header.specs.Header.{header}
 use Rattle.opus_header.specs.Compact.{compact}
 use Rattle.show.specs.Text.{places, decimal}

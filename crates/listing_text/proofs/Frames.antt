@@ -16,8 +16,8 @@ use mir.Syntax.{w64}
 use mir.Val.{Fits}
 use Rattle.laws.proofs.Never.{by-test}
 use Rattle.opus_toc.specs.Toc.{configuration, samples}
-use Rattle.opus.specs.Frames.{total}
-use Rattle.opus.proofs.Lengths.{take-next, total-more}
+use Rattle.opus_format.specs.Frames.{total}
+use Rattle.opus_format.proofs.Lengths.{take-next, total-more}
 use Rattle.show.proofs.Laid.{Laid, laid-then}
 use Rattle.listing_text.specs.Listing.{busy, time, frameLine, frameLines}
 

@@ -8,8 +8,8 @@ use Rattle.opus_defines.specs.Numbers.{refusalNumber}
 use Rattle.opus_defines.specs.declared.Refusal.{Refusal}
 use Rattle.opus_defines.specs.declared.Refusal.the-variants.{BadArg, InvalidPacket}
 use Rattle.opus_toc.specs.Toc.{upperSix, configuration, samples}
-use Rattle.opus.specs.Frames.{cut}
-use Rattle.opus.specs.Reading.{Reading, refused, accepted, read}
+use Rattle.opus_format.specs.Frames.{cut}
+use Rattle.opus_format.specs.Reading.{Reading, refused, accepted, read}
 use Rattle.opus_header.specs.Compact.{compact}
 use Rattle.show.specs.Text.{decimal, refusal}
 use Rattle.listing_text.specs.Labels.{tocLabel, countLabel, timeLabel, payloadLabel, packetLabel, compactLabel, frameLabel, atLabel, lengthLabel}

@@ -9,7 +9,7 @@ ghost use lib.ListN.{length};
 ghost use lib.Seq.{sets};
 ghost use Rattle.io.specs.Counts.{Counts};
 ghost use Rattle.opus_size.specs.Size.{mostBytes};
-ghost use Rattle.opus.specs.Frames.{total, longest};
+ghost use Rattle.opus_format.specs.Frames.{total, longest};
 ghost use Rattle.opus_header.specs.Sums.{sumsOf};
 ghost use Rattle.opus_header.specs.Forms.{compactBytes};
 ghost use Rattle.show.specs.Text.{decimal};

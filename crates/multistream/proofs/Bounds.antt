@@ -20,10 +20,10 @@ use Rattle.laws.proofs.Bytes.{bytes-drop}
 use Rattle.laws.proofs.Never.{never, cond-elim}
 use Rattle.opus_defines.specs.declared.Refusal.the-variants.{BufferTooSmall}
 use Rattle.opus_toc.specs.Toc.{upperSix}
-use Rattle.opus.specs.Frames.{cut}
-use Rattle.opus.specs.Reading.{Reading, refused, accepted, read}
-use Rattle.opus.proofs.Facts.{facts}
-use Rattle.opus.proofs.Sound.{read-spelled}
+use Rattle.opus_format.specs.Frames.{cut}
+use Rattle.opus_format.specs.Reading.{Reading, refused, accepted, read}
+use Rattle.opus_format.proofs.Facts.{facts}
+use Rattle.opus_format.proofs.Sound.{read-spelled}
 use Rattle.opus_header.specs.Compact.{compact}
 use Rattle.packet_pad.proofs.Spelled.{never-longer}
 use Rattle.multistream.specs.declared.Passed.{Passed}

@@ -24,8 +24,8 @@ use Rattle.opus_defines.specs.declared.Refusal.the-variants.{BufferTooSmall}
 use Rattle.opus_defines.specs.declared.Verdict.the-variants.{Accepted}
 use Rattle.opus_defines.specs.declared.Verdict.the-variants as Verdicts
 use Rattle.opus_toc.specs.Toc.{upperSix}
-use Rattle.opus.specs.Frames.{cut, total}
-use Rattle.opus.specs.Reading.{Reading, refused, accepted, read}
+use Rattle.opus_format.specs.Frames.{cut, total}
+use Rattle.opus_format.specs.Reading.{Reading, refused, accepted, read}
 use Rattle.opus.specs.Answers.{parsed}
 use Rattle.opus.specs.declared.Packet.{Packet}
 use Rattle.opus_header.specs.Header.{compactHeader}

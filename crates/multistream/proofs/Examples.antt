@@ -5,7 +5,7 @@ use mathlib.Core.List.{map}
 use Rattle.opus_toc.specs.Toc.{duration}
 use Rattle.opus_size.specs.Size.{lengthField}
 use Rattle.opus_size.specs.Answers.{encodeSize}
-use Rattle.opus.specs.Reading.{read}
+use Rattle.opus_format.specs.Reading.{read}
 use Rattle.opus.specs.Answers.{parsed}
 use Rattle.opus.specs.Cases.{Case}
 use Rattle.opus_header.specs.Header.{header}

@@ -17,12 +17,12 @@ use Rattle.laws.specs.Bytes.{Bytes}
 use Rattle.laws.proofs.Bytes.{bytes-drop}
 use Rattle.laws.proofs.Never.{never}
 use Rattle.opus_toc.specs.Toc.{upperSix}
-use Rattle.opus.specs.Frames.{cut}
-use Rattle.opus.specs.Format.{Spells, Behind}
-use Rattle.opus.specs.Reading.{Reading, refused, accepted, read, framesOf}
-use Rattle.opus.proofs.Facts.{facts}
-use Rattle.opus.proofs.Sound.{read-spelled}
-use Rattle.opus.proofs.Complete.{spelled-read, spelled-six, spelled-frames}
+use Rattle.opus_format.specs.Frames.{cut}
+use Rattle.opus_format.specs.Format.{Spells, Behind}
+use Rattle.opus_format.specs.Reading.{Reading, refused, accepted, read, framesOf}
+use Rattle.opus_format.proofs.Facts.{facts}
+use Rattle.opus_format.proofs.Sound.{read-spelled}
+use Rattle.opus_format.proofs.Complete.{spelled-read, spelled-six, spelled-frames}
 use Rattle.opus_header.specs.Compact.{compact}
 use Rattle.packet_pad.proofs.Spelled.{compact-of}
 use Rattle.multistream.specs.declared.Passed.the-variants.{Past}

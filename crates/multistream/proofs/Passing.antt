@@ -16,7 +16,7 @@ use Rattle.laws.specs.Bytes.{Bytes}
 use Rattle.laws.proofs.Bytes.{bytes-drop}
 use Rattle.opus_defines.specs.declared.Refusal.{Refusal}
 use Rattle.opus_defines.specs.declared.Verdict.the-variants.{Accepted, Refused}
-use Rattle.opus.specs.Reading.{accepted, read}
+use Rattle.opus_format.specs.Reading.{accepted, read}
 use Rattle.opus.specs.Answers.{parsed}
 use Rattle.opus.specs.declared.Packet.{Packet}
 use Rattle.opus.proofs.Parsed.{lengthsOf, parsed-accepted, parsed-refused}

@@ -27,13 +27,13 @@ use Rattle.blocks.specs.Blocks.{part}
 use Rattle.blocks.proofs.Sets.{sets-append}
 use Rattle.opus_defines.specs.declared.Verdict.the-variants.{Accepted}
 use Rattle.opus_toc.specs.Toc.{upperSix}
-use Rattle.opus.specs.Frames.{cut, total}
-use Rattle.opus.specs.Reading.{Reading, refused, accepted, read}
+use Rattle.opus_format.specs.Frames.{cut, total}
+use Rattle.opus_format.specs.Reading.{Reading, refused, accepted, read}
 use Rattle.opus.specs.Answers.{packetOf, parsed, answerOf}
 use Rattle.opus.specs.declared.Packet.{Packet}
 use Rattle.opus.specs.declared.PacketHead.{PacketHead}
 use Rattle.opus.proofs.Lent.{packetWith, lent-accepted}
-use Rattle.opus.proofs.Frames.{lengths-cut, joined-cut}
+use Rattle.opus_format.proofs.Frames.{lengths-cut, joined-cut}
 use Rattle.opus_header.specs.Compact.{compact}
 use Rattle.opus_header.specs.Forms.{compactForm, missing, formPacket}
 use Rattle.opus_header.specs.declared.Form.{Form}

@@ -13,7 +13,7 @@ use borrow.Author.Tests.{le-ltb}
 use Rattle.laws.specs.Bytes.{Bytes}
 use Rattle.laws.proofs.Bytes.{bytes-drop, bytes-take}
 use Rattle.opus_defines.specs.Outcome.{writes}
-use Rattle.opus.specs.Format.{Spells}
+use Rattle.opus_format.specs.Format.{Spells}
 use Rattle.opus_header.specs.Compact.{filling}
 use Rattle.opus_header.proofs.Filling.{filling-length}
 use Rattle.packet_pad.specs.Pad.{padsTo, padLengths}

@@ -10,8 +10,8 @@ use Rattle.opus_defines.specs.declared.Verdict.{Verdict}
 use Rattle.opus_defines.specs.declared.Verdict.the-variants.{Accepted}
 use Rattle.opus_defines.specs.declared.Verdict.the-variants as Verdicts
 use Rattle.opus_toc.specs.Toc.{upperSix}
-use Rattle.opus.specs.Frames.{cut}
-use Rattle.opus.specs.Reading.{Reading, refused, accepted, read}
+use Rattle.opus_format.specs.Frames.{cut}
+use Rattle.opus_format.specs.Reading.{Reading, refused, accepted, read}
 use Rattle.opus_header.specs.Compact.{compact}
 use Rattle.multistream.specs.declared.Checked.{Checked}
 use Rattle.multistream.specs.declared.Checked.the-variants.{Taken, Refused}

@@ -7,7 +7,7 @@ use lib.IntN.{ℤ, pos, negsuc}
 use lib.ListN.{drop}
 use Rattle.opus_defines.specs.Outcome.{Outcome, refuses}
 use Rattle.opus_defines.specs.declared.Refusal.the-variants.{BadArg}
-use Rattle.opus.specs.Reading.{Reading, refused, accepted, read}
+use Rattle.opus_format.specs.Reading.{Reading, refused, accepted, read}
 use Rattle.multistream.specs.declared.Passed.{Passed}
 use Rattle.multistream.specs.declared.Passed.the-variants.{Past, Stuck}
 

@@ -11,8 +11,8 @@ use Rattle.opus_defines.specs.declared.Refusal.the-variants.{BadArg, BufferTooS
 use Rattle.opus_defines.specs.declared.Verdict.{Verdict}
 use Rattle.opus_defines.specs.declared.Verdict.the-variants.{Accepted, Refused}
 use Rattle.opus_toc.specs.Toc.{upperSix}
-use Rattle.opus.specs.Frames.{cut}
-use Rattle.opus.specs.Reading.{Reading, refused, accepted, read}
+use Rattle.opus_format.specs.Frames.{cut}
+use Rattle.opus_format.specs.Reading.{Reading, refused, accepted, read}
 use Rattle.opus_header.specs.Compact.{compact}
 use Rattle.packet_pad.specs.Pad.{over}
 use Rattle.multistream.specs.Streams.{byStreams}

@@ -7,7 +7,7 @@ ghost use lib.ListN.{length, take};
 ghost use lib.Seq.{sets};
 ghost use Rattle.opus_defines.specs.Numbers.{numberOf};
 ghost use Rattle.opus_defines.specs.declared.Verdict.the-variants.{Accepted};
-ghost use Rattle.opus.specs.Reading.{read};
+ghost use Rattle.opus_format.specs.Reading.{read};
 ghost use Rattle.multistream.specs.Streams.{passStreams};
 ghost use Rattle.multistream.specs.Pad.{streamsPadLengths, streamsPadded};
 ghost use Rattle.multistream.specs.Unpad.{repackStreams, verdictOf, packedOf, streamsUnpadLength, streamsUnpadded};

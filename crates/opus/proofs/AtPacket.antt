@@ -24,17 +24,18 @@ use Rattle.opus_defines.specs.declared.Verdict.the-variants.{Accepted, Refused}
 use Rattle.opus_size.specs.Size.{Field, noField, field}
 use Rattle.opus_toc.specs.Toc.{upperSix, configuration, duration, samples}
 use Rattle.opus_toc.proofs.Samples.{lasts-at}
-use Rattle.opus.specs.Frames.{total}
-use Rattle.opus.specs.Reading.{Rule, R2, R3, R4, R5, R6, R7, Front, broken, front, Fields, noFields, fields, readFields, behindFields, equal, readPadding, frames3, lasts, Reading, refused, accept, behindPadding, read3, readCode, read}
+use Rattle.opus_format.specs.Frames.{total}
+use Rattle.opus_format.specs.Reading.{Rule, R2, R3, R4, R5, R6, R7, Front, broken, front, Fields, noFields, fields, readFields, behindFields, equal, readPadding, frames3, lasts, Reading, refused, accept, behindPadding, read3, readCode, read}
 use Rattle.opus.specs.Answers.{noPacket, packetOf, parsed, answerOf}
-use Rattle.opus.specs.Parts.{framesAt, framesLent, FramesRead, endOf, paddingAt, noHead, headAt}
-use Rattle.opus.specs.declared.frames_at.FramesAt.{FramesAt}
-use Rattle.opus.specs.declared.frames_at.FramesAt.the-variants.{At, Broken}
-use Rattle.opus.specs.declared.padding_at.PaddingAt.the-variants.{Whole, Unfit}
+use Rattle.opus_parts.specs.Parts.{framesAt, framesLent, FramesRead, endOf, paddingAt}
+use Rattle.opus.specs.Heads.{noHead, headAt}
+use Rattle.opus_parts.specs.declared.frames_at.FramesAt.{FramesAt}
+use Rattle.opus_parts.specs.declared.frames_at.FramesAt.the-variants.{At, Broken}
+use Rattle.opus_parts.specs.declared.padding_at.PaddingAt.the-variants.{Whole, Unfit}
 use Rattle.opus.specs.declared.Packet.{Packet}
 use Rattle.opus.specs.declared.PacketHead.{PacketHead}
-use Rattle.opus.proofs.AtFrames.{Within, unequal-within, equal-within, frames-within}
-use Rattle.opus.proofs.AtPadding.{Padded, padding-was}
+use Rattle.opus_parts.proofs.AtFrames.{Within, unequal-within, equal-within, frames-within}
+use Rattle.opus_parts.proofs.AtPadding.{Padded, padding-was}
 
 module _ (toc count at pad : ℕ) (f : FramesAt) where
   pub head-found : (first sum : ℕ) → f ≡ At first sum

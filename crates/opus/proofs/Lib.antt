@@ -1,16 +1,4 @@
-pub mod Frames
-pub mod Fields
-pub mod Padding
-pub mod Fronts
-pub mod Counts
-pub mod Complete
-pub mod Sound
-pub mod Facts
-pub mod Lengths
 pub mod Parsed
 pub mod Promises
-pub mod AtSizes
-pub mod AtPadding
-pub mod AtFrames
 pub mod AtPacket
 pub mod Lent

@@ -15,7 +15,7 @@ use Rattle.laws.proofs.Never.{never, by-test}
 use Rattle.opus_defines.specs.declared.Refusal.{Refusal}
 use Rattle.opus_defines.specs.declared.Refusal.the-variants.{InvalidPacket}
 use Rattle.opus_defines.specs.declared.Verdict.the-variants.{Accepted, Refused}
-use Rattle.opus.specs.Reading.{Rule, Reading, refused, accepted, read}
+use Rattle.opus_format.specs.Reading.{Rule, Reading, refused, accepted, read}
 use Rattle.opus.specs.Answers.{packetOf, parsed}
 use Rattle.opus.specs.declared.Packet.{Packet}
 

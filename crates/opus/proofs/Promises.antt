@@ -10,12 +10,12 @@ use borrow.Author.Tests.{le-ltb}
 use Rattle.laws.specs.Bytes.{Bytes}
 use Rattle.opus_defines.specs.declared.Verdict.the-variants.{Accepted}
 use Rattle.opus_toc.specs.Toc.{upperSix}
-use Rattle.opus.specs.Frames.{cut}
-use Rattle.opus.specs.Format.{Spells, Behind}
-use Rattle.opus.specs.Reading.{read}
+use Rattle.opus_format.specs.Frames.{cut}
+use Rattle.opus_format.specs.Format.{Spells, Behind}
+use Rattle.opus_format.specs.Reading.{read}
 use Rattle.opus.specs.Answers.{parsed, packetNumber}
-use Rattle.opus.proofs.Complete.{spelled-read}
-use Rattle.opus.proofs.Sound.{read-spelled}
+use Rattle.opus_format.proofs.Complete.{spelled-read}
+use Rattle.opus_format.proofs.Sound.{read-spelled}
 use Rattle.opus.proofs.Parsed.{lengthsOf, parsed-accepted}
 
 -- a packet of RFC 6716 stands at the front of p, and is all of it in the ordinary form

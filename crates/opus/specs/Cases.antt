@@ -10,7 +10,8 @@ use Rattle.opus_defines.specs.declared.Refusal.the-variants.{BadArg, InvalidPac
 use Rattle.opus_defines.specs.declared.Verdict.the-variants.{Accepted}
 use Rattle.opus_size.specs.Size.{lengthField}
 use Rattle.opus_size.specs.Answers.{encodeSize}
-use Rattle.opus.specs.Answers.{padded48, noPacket, parsed}
+use Rattle.opus_format.specs.Frames.{padded48}
+use Rattle.opus.specs.Answers.{noPacket, parsed}
 use Rattle.opus.specs.declared.Packet.{Packet}
 
 -- what a case shows

@@ -1,6 +1,3 @@
-pub mod Frames
-pub mod Format
-pub mod Reading
 pub mod Answers
-pub mod Parts
+pub mod Heads
 pub mod Cases

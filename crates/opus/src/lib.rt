@@ -1,25 +1,23 @@
 // The packet reader in both delimitings (RFC 6716, sections 3.2 to 3.4 and appendix B): `opus_packet_parse_impl` and
 // `opus_packet_parse` of opus.rs. A packet's frames lie one behind another, so the answer has their lengths and the first one's place.
-mod frames_at;
-mod padding_at;
-mod sizes_at;
-
 ghost use mathlib.Core.Path.{_≡_};
 ghost use mathlib.Core.Bool.{false};
 ghost use mathlib.Core.List.{[]};
 ghost use Prim.Native.Nat.{_+_, _/_, _%_, _^_, _<_, _≤_};
 ghost use lib.ListN.{length, getD, drop};
-ghost use Rattle.opus.specs.Reading.{readPadding, behindPadding, read3, read};
-ghost use Rattle.opus.specs.Answers.{padded48, noPacket, packetOf, parsed, answerOf};
-ghost use Rattle.opus.specs.Parts.{noHead, endOf, headAt};
-use frames_at::FramesAt;
-use frames_at::equal_frames;
-use frames_at::frames_3;
-use frames_at::unequal_frames;
+ghost use Rattle.opus_format.specs.Frames.{padded48};
+ghost use Rattle.opus_format.specs.Reading.{readPadding, behindPadding, read3, read};
+ghost use Rattle.opus.specs.Answers.{noPacket, packetOf, parsed, answerOf};
+ghost use Rattle.opus_parts.specs.Parts.{endOf};
+ghost use Rattle.opus.specs.Heads.{noHead, headAt};
 use opus_defines::Refusal;
 use opus_defines::Verdict;
-use padding_at::PaddingAt;
-use padding_at::read_padding;
+use opus_parts::frames_at::FramesAt;
+use opus_parts::frames_at::equal_frames;
+use opus_parts::frames_at::frames_3;
+use opus_parts::frames_at::unequal_frames;
+use opus_parts::padding_at::PaddingAt;
+use opus_parts::padding_at::read_padding;
 
 // The longest packet, in bytes.
 pub const MOST_PACKET: usize = 65535;

@@ -12,7 +12,7 @@ use lib.Dec.{eqb}
 use lib.ListN.{length, replicate, length-append, length-replicate}
 use borrow.Author.Tests.{eqb-true, eqb-false, ne-eqb}
 use Rattle.laws.proofs.Never.{by-test}
-use Rattle.opus.specs.Format.{Padding, unpadded, padded}
+use Rattle.opus_format.specs.Format.{Padding, unpadded, padded}
 use Rattle.opus_header.specs.Header.{chain, padBytes}
 
 module _ (n : ℕ) (some : n ≡ 0 → ⊥) where

@@ -10,11 +10,11 @@ use lib.ListN.{length, getD, take, length-append}
 use lib.Seq.{take-all}
 use Rattle.opus_size.specs.Size.{mostBytes, lengthField, lengthFields}
 use Rattle.opus_size.proofs.Fields.{width}
-use Rattle.opus.specs.Frames.{total, longest}
-use Rattle.opus.proofs.Frames.{total-snoc}
+use Rattle.opus_format.specs.Frames.{total, longest}
+use Rattle.opus_format.proofs.Frames.{total-snoc}
 use Rattle.opus_header.specs.Header.{allAre, same, firsts, last, sizes}
 use Rattle.opus_header.specs.Sums.{sumsOf}
-use Rattle.opus.proofs.Lengths.{longest-at, take-next}
+use Rattle.opus_format.proofs.Lengths.{longest-at, take-next}
 use Rattle.opus_header.proofs.Lengths.{firsts-whole, last-at, same-all, all-agree, all-differ}
 use Rattle.opus_header.proofs.Sizes.{fields-append, fields-next}
 

@@ -10,8 +10,8 @@ use lib.ListN.{length, replicate, length-append, length-replicate}
 use borrow.Author.Tests.{ltb-true, ltb-false}
 use Rattle.laws.proofs.Never.{by-test, cond-elim}
 use Rattle.opus_size.specs.Size.{mostBytes}
-use Rattle.opus.specs.Frames.{lengths, joined, longest}
-use Rattle.opus.specs.Format.{Lasts, Spells, ownLength}
+use Rattle.opus_format.specs.Frames.{lengths, joined, longest}
+use Rattle.opus_format.specs.Format.{Lasts, Spells, ownLength}
 use Rattle.opus_header.specs.Header.{last, sizes, chain, padBytes, header}
 use Rattle.opus_header.specs.Compact.{compact, full, filling}
 use Rattle.opus_header.proofs.Chain.{chain-most}

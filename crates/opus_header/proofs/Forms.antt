@@ -14,9 +14,9 @@ use borrow.Author.Tests.{ltb-true, ltb-false}
 use Rattle.laws.proofs.Never.{by-test}
 use Rattle.opus_size.specs.Size.{mostBytes, lengthField, lengthFields}
 use Rattle.opus_size.proofs.Fields.{width}
-use Rattle.opus.specs.Frames.{lengths, joined, total, longest}
-use Rattle.opus.specs.Format.{ownLength}
-use Rattle.opus.proofs.Lengths.{total-most}
+use Rattle.opus_format.specs.Frames.{lengths, joined, total, longest}
+use Rattle.opus_format.specs.Format.{ownLength}
+use Rattle.opus_format.proofs.Lengths.{total-most}
 use Rattle.opus_header.specs.Header.{same, firsts, last, sizes, chain, padBytes, header, compactHeader, fullHeader}
 use Rattle.opus_header.specs.Compact.{compact, full, filling}
 use Rattle.opus_header.specs.Sums.{sumsOf, frontOf, headerOf}

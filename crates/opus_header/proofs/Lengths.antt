@@ -14,8 +14,8 @@ use lib.ListN.{length, replicate, getD, take, length-append}
 use borrow.Author.Tests.{eqb-true, eq-eqb, ne-eqb}
 use Rattle.laws.proofs.Never.{by-test}
 use Rattle.laws.proofs.Every.{both-left, both-right}
-use Rattle.opus.specs.Frames.{longest}
-use Rattle.opus.proofs.Lengths.{longest-at}
+use Rattle.opus_format.specs.Frames.{longest}
+use Rattle.opus_format.proofs.Lengths.{longest-at}
 use Rattle.opus_header.specs.Header.{allAre, same, firsts, last}
 
 -- ---- all but the last, and the last

@@ -18,8 +18,8 @@ use Rattle.laws.proofs.Never.{cond-elim}
 use Rattle.blocks.specs.Blocks.{filled}
 use Rattle.blocks.proofs.Sets.{sets-append, sets-next}
 use Rattle.opus_size.specs.Size.{mostBytes, lengthField, lengthFields}
-use Rattle.opus.specs.Frames.{longest}
-use Rattle.opus.specs.Format.{ownLength}
+use Rattle.opus_format.specs.Frames.{longest}
+use Rattle.opus_format.specs.Format.{ownLength}
 use Rattle.opus_header.specs.Header.{same, last, sizes, chain, shortCode, header, fullFront}
 use Rattle.opus_header.specs.Sums.{sumsOf, frontOf, headerOf}
 use Rattle.opus_header.specs.declared.Sums.{Sums}

@@ -15,8 +15,8 @@ use Rattle.laws.proofs.Never.{by-test}
 use Rattle.opus_size.specs.Size.{lengthField, lengthFields}
 use Rattle.opus_size.proofs.Fields.{width}
 use Rattle.opus_toc.specs.Toc.{tocByte}
-use Rattle.opus.specs.Frames.{lengths}
-use Rattle.opus.specs.Format.{Padding, unpadded, padded, Layout, code0, code1, code2, code3equal, code3unequal, Spells, countByte, ownLength}
+use Rattle.opus_format.specs.Frames.{lengths}
+use Rattle.opus_format.specs.Format.{Padding, unpadded, padded, Layout, code0, code1, code2, code3equal, code3unequal, Spells, countByte, ownLength}
 use Rattle.opus_header.specs.Header.{same, last, sizes, header, compactHeader}
 use Rattle.opus_header.specs.Compact.{compact}
 use Rattle.opus_header.proofs.Lengths.{firsts-snoc, last-snoc, replicate-same, replicate-last}

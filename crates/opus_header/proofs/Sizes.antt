@@ -10,8 +10,8 @@ use lib.ListN.{length, getD, take, drop, length-append}
 use lib.Seq.{sets, split-at, take-all, length-sets}
 use Rattle.blocks.proofs.Sets.{sets-append}
 use Rattle.opus_size.specs.Size.{mostBytes, lengthField, lengthFields}
-use Rattle.opus.specs.Frames.{longest}
-use Rattle.opus.proofs.Lengths.{longest-at, take-next}
+use Rattle.opus_format.specs.Frames.{longest}
+use Rattle.opus_format.proofs.Lengths.{longest-at, take-next}
 
 pub fields-append : (ms ns : List ℕ) → lengthFields (ms ++ ns) ≡ lengthFields ms ++ lengthFields ns
 fields-append [] ns = refl

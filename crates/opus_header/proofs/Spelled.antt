@@ -11,8 +11,8 @@ use borrow.Author.Tests.{eqb-true, le-ltb}
 use Rattle.laws.proofs.Never.{by-test}
 use Rattle.opus_size.specs.Size.{mostBytes, lengthFields}
 use Rattle.opus_toc.specs.Toc.{tocByte}
-use Rattle.opus.specs.Frames.{lengths, longest}
-use Rattle.opus.specs.Format.{Lasts, Padding, Layout, code0, code1, code2, code3equal, code3unequal, Spells, countByte, ownLength}
+use Rattle.opus_format.specs.Frames.{lengths, longest}
+use Rattle.opus_format.specs.Format.{Lasts, Padding, Layout, code0, code1, code2, code3equal, code3unequal, Spells, countByte, ownLength}
 use Rattle.opus_header.specs.Header.{same, firsts, last, chain, padBytes, header, compactHeader, fullHeader}
 use Rattle.opus_header.specs.Compact.{compact, full}
 use Rattle.opus_header.proofs.Lengths.{firsts-whole, firsts-count, same-replicate}

@@ -4,7 +4,7 @@ use mathlib.Core.List.{List, _++_}
 use mathlib.Core.Bool.{Bool, cond, _&&_}
 use lib.Dec.{ltb}
 use lib.ListN.{length, replicate}
-use Rattle.opus.specs.Frames.{lengths, joined}
+use Rattle.opus_format.specs.Frames.{lengths, joined}
 use Rattle.opus_header.specs.Header.{padBytes, compactHeader, fullHeader}
 
 unfoldable pub compact : Bool → ℕ → List (List ℕ) → List ℕ

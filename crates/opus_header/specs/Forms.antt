@@ -4,7 +4,7 @@ use mathlib.Core.List.{List, _++_}
 use mathlib.Core.Bool.{Bool, cond}
 use lib.Dec.{ltb}
 use lib.ListN.{length, replicate}
-use Rattle.opus.specs.Format.{ownLength}
+use Rattle.opus_format.specs.Format.{ownLength}
 use Rattle.opus_header.specs.Header.{chain, padBytes}
 use Rattle.opus_header.specs.Sums.{headerOf}
 use Rattle.opus_header.specs.declared.Sums.{Sums}

@@ -7,7 +7,7 @@ use lib.Dec.{ltb, eqb}
 use lib.ListN.{length, replicate}
 use Rattle.opus_size.specs.Size.{lengthFields}
 use Rattle.opus_toc.specs.Toc.{tocByte}
-use Rattle.opus.specs.Format.{countByte, ownLength}
+use Rattle.opus_format.specs.Format.{countByte, ownLength}
 
 -- ---- lengths
 abbrev pub allAre : ℕ → List ℕ → Bool

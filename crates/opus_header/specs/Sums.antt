@@ -3,7 +3,7 @@ use Prim.Native.Nat.{ℕ}
 use mathlib.Core.List.{List}
 use mathlib.Core.Bool.{Bool}
 use lib.ListN.{length}
-use Rattle.opus.specs.Frames.{total}
+use Rattle.opus_format.specs.Frames.{total}
 use Rattle.opus_header.specs.Header.{same, last, sizes, header, shortFront, fullFront}
 use Rattle.opus_header.specs.declared.Sums.{Sums}
 use Rattle.opus_header.specs.declared.Form.{Form}

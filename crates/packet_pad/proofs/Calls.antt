@@ -30,7 +30,7 @@ use Rattle.opus_defines.specs.declared.Refusal.the-variants.{BadArg, InternalEr
 use Rattle.opus_defines.specs.declared.Verdict.the-variants.{Refused}
 use Rattle.opus_defines.proofs.Counts.{is-natural}
 use Rattle.opus_toc.specs.Toc.{upperSix}
-use Rattle.opus.specs.Frames.{cut}
+use Rattle.opus_format.specs.Frames.{cut}
 use Rattle.opus.specs.Answers.{parsed}
 use Rattle.opus.specs.declared.Packet.{Packet}
 use Rattle.opus_header.specs.Compact.{compact, filling}

@@ -19,13 +19,13 @@ use Rattle.blocks.proofs.Sets.{length-part}
 use Rattle.opus_defines.specs.declared.Verdict.the-variants.{Accepted}
 use Rattle.opus_size.specs.Size.{mostBytes}
 use Rattle.opus_toc.specs.Toc.{upperSix}
-use Rattle.opus.specs.Frames.{lengths, cut, total, longest}
-use Rattle.opus.specs.Reading.{accepted, read}
+use Rattle.opus_format.specs.Frames.{lengths, cut, total, longest}
+use Rattle.opus_format.specs.Reading.{accepted, read}
 use Rattle.opus.specs.Answers.{parsed}
 use Rattle.opus.specs.declared.Packet.{Packet}
-use Rattle.opus.proofs.Frames.{joined-cut, lengths-cut}
-use Rattle.opus.proofs.Facts.{facts}
-use Rattle.opus.proofs.Sound.{read-spelled}
+use Rattle.opus_format.proofs.Frames.{joined-cut, lengths-cut}
+use Rattle.opus_format.proofs.Facts.{facts}
+use Rattle.opus_format.proofs.Sound.{read-spelled}
 use Rattle.opus_header.specs.Header.{compactHeader}
 use Rattle.opus_header.specs.Compact.{compact, filling}
 use Rattle.opus_header.specs.Sums.{sumsOf}
@@ -35,7 +35,7 @@ use Rattle.opus_header.specs.declared.Form.{Form}
 use Rattle.opus_header.proofs.Forms.{compact-missing, compact-bytes, compact-size, packet-formed}
 use Rattle.opus_header.proofs.Filling.{filling-length}
 use Rattle.opus_header.proofs.Shortest.{header-shortest}
-use Rattle.opus.proofs.Lengths.{cut-take}
+use Rattle.opus_format.proofs.Lengths.{cut-take}
 use Rattle.opus.proofs.Parsed.{lengthsOf, parsed-accepted}
 
 -- ---- a packet that was read in the first `len` bytes of the buffer s, with the reader's answer r

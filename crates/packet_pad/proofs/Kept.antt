@@ -11,8 +11,8 @@ use Rattle.laws.proofs.Never.{never, cond-elim}
 use Rattle.opus_defines.specs.Outcome.{Outcome, refuses, writes}
 use Rattle.opus_defines.specs.declared.Refusal.the-variants.{BadArg, InternalError}
 use Rattle.opus_toc.specs.Toc.{upperSix}
-use Rattle.opus.specs.Frames.{cut}
-use Rattle.opus.specs.Reading.{Reading, refused, accepted, read}
+use Rattle.opus_format.specs.Frames.{cut}
+use Rattle.opus_format.specs.Reading.{Reading, refused, accepted, read}
 use Rattle.opus_header.specs.Compact.{compact}
 use Rattle.packet_pad.specs.Pad.{over, padReading, padPacket, padLengths, padSigned, padded}
 use Rattle.packet_pad.specs.Unpad.{unpadReading, unpadPacket, unpadSigned, unpadded}

@@ -12,9 +12,9 @@ use Rattle.laws.specs.Bytes.{Bytes}
 use Rattle.laws.proofs.Bytes.{bytes-take}
 use Rattle.opus_defines.specs.Outcome.{writes}
 use Rattle.opus_toc.specs.Toc.{upperSix}
-use Rattle.opus.specs.Frames.{cut}
-use Rattle.opus.specs.Format.{Spells}
-use Rattle.opus.specs.Reading.{accepted, read, framesOf}
+use Rattle.opus_format.specs.Frames.{cut}
+use Rattle.opus_format.specs.Format.{Spells}
+use Rattle.opus_format.specs.Reading.{accepted, read, framesOf}
 use Rattle.opus_header.specs.Compact.{compact, filling}
 use Rattle.opus_header.proofs.Filling.{filling-length}
 use Rattle.packet_pad.specs.Pad.{padsTo, padded}

@@ -9,7 +9,7 @@ use lib.ListN.{length, replicate, length-append, length-replicate}
 use lib.Seq.{sets}
 use Rattle.blocks.specs.Blocks.{part, moved, filled}
 use Rattle.blocks.proofs.Sets.{length-part, sets-append, sets-before-sets}
-use Rattle.opus.specs.Frames.{total}
+use Rattle.opus_format.specs.Frames.{total}
 use Rattle.opus_header.specs.Header.{padBytes}
 use Rattle.opus_header.specs.Sums.{sumsOf, headerOf}
 use Rattle.opus_header.specs.Forms.{headerBytes, missing, formPacket}

@@ -20,12 +20,12 @@ use Rattle.laws.specs.Bytes.{Bytes}
 use Rattle.blocks.proofs.Sets.{take-sets}
 use Rattle.opus_defines.specs.Outcome.{writes}
 use Rattle.opus_toc.specs.Toc.{upperSix}
-use Rattle.opus.specs.Frames.{lengths, cut}
-use Rattle.opus.specs.Format.{Lasts, Spells, Behind}
-use Rattle.opus.specs.Reading.{accepted, read, framesOf}
-use Rattle.opus.proofs.Complete.{spelled-read, spelled-six, spelled-frames}
-use Rattle.opus.proofs.Sound.{read-spelled, ordinary-whole}
-use Rattle.opus.proofs.Facts.{layout-lasts, layout-headed}
+use Rattle.opus_format.specs.Frames.{lengths, cut}
+use Rattle.opus_format.specs.Format.{Lasts, Spells, Behind}
+use Rattle.opus_format.specs.Reading.{accepted, read, framesOf}
+use Rattle.opus_format.proofs.Complete.{spelled-read, spelled-six, spelled-frames}
+use Rattle.opus_format.proofs.Sound.{read-spelled, ordinary-whole}
+use Rattle.opus_format.proofs.Facts.{layout-lasts, layout-headed}
 use Rattle.opus_header.specs.Compact.{compact, filling}
 use Rattle.opus_header.proofs.Shortest.{shortest}
 use Rattle.opus_header.proofs.Spelled.{compact-spelled}

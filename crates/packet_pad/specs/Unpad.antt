@@ -8,8 +8,8 @@ use lib.ListN.{length, take, drop}
 use Rattle.opus_defines.specs.Outcome.{Outcome, refuses, writes}
 use Rattle.opus_defines.specs.declared.Refusal.the-variants.{BadArg, InternalError, InvalidPacket}
 use Rattle.opus_toc.specs.Toc.{upperSix}
-use Rattle.opus.specs.Frames.{cut}
-use Rattle.opus.specs.Reading.{Reading, refused, accepted, read}
+use Rattle.opus_format.specs.Frames.{cut}
+use Rattle.opus_format.specs.Reading.{Reading, refused, accepted, read}
 use Rattle.opus_header.specs.Compact.{compact}
 use Rattle.packet_pad.specs.Pad.{over}
 

@@ -23,10 +23,10 @@ use Rattle.opus_defines.specs.declared.Verdict.the-variants.{Accepted, Refused}
 use Rattle.opus_size.specs.Size.{mostBytes}
 use Rattle.opus_toc.specs.declared.Samples8k.{Samples8k}
 use Rattle.opus_toc.specs.Toc.{upperSix, configuration, samples}
-use Rattle.opus.specs.Frames.{total, longest}
-use Rattle.opus.specs.Format.{Lasts}
-use Rattle.opus.specs.Reading.{Reading, refused, accepted, read}
-use Rattle.opus.proofs.Counts.{lasts-few}
+use Rattle.opus_format.specs.Frames.{total, longest}
+use Rattle.opus_format.specs.Format.{Lasts}
+use Rattle.opus_format.specs.Reading.{Reading, refused, accepted, read}
+use Rattle.opus_format.proofs.Counts.{lasts-few}
 use Rattle.blocks.specs.Blocks.{copied}
 use Rattle.repacketizer.specs.declared.OpusRepacketizer.{OpusRepacketizer}
 use Rattle.repacketizer.specs.declared.Head.{Head}
@@ -34,7 +34,7 @@ use Rattle.repacketizer.specs.declared.AddedHead.{AddedHead}
 use Rattle.repacketizer.specs.Collector.{heldLengths, leastStore, sound}
 use Rattle.repacketizer.specs.Adding.{Adding, noAdd, goesWith, withFrames, addBlock, addRead, addPacket, added}
 use Rattle.repacketizer.specs.Parts.{collectorOf, refusedHead, moreFrames, addedOf}
-use Rattle.opus.proofs.Lengths.{total-most}
+use Rattle.opus_format.proofs.Lengths.{total-most}
 use Rattle.repacketizer.proofs.Held.{holding}
 use Rattle.repacketizer.proofs.Sound.{Timed, timed-lasts, lasts-timed, none-sound, sound-full}
 

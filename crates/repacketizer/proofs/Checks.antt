@@ -13,8 +13,8 @@ use lib.Seq.{length-take-le}
 use borrow.Author.Tests.{le-leb, lt-leb}
 use Rattle.opus_size.specs.Size.{mostBytes}
 use Rattle.opus_toc.specs.Toc.{configuration, samples}
-use Rattle.opus.specs.Frames.{total, longest}
-use Rattle.opus.proofs.Counts.{lasts-few}
+use Rattle.opus_format.specs.Frames.{total, longest}
+use Rattle.opus_format.proofs.Counts.{lasts-few}
 use Rattle.repacketizer.specs.declared.OpusRepacketizer.{OpusRepacketizer}
 use Rattle.repacketizer.specs.declared.Head.{Head}
 use Rattle.repacketizer.specs.declared.Checked.{Checked}

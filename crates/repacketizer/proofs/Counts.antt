@@ -10,8 +10,8 @@ use mathlib.Core.List.{List}
 use lib.ListN.{length, getD, take}
 use lib.Seq.{take-all}
 use Rattle.opus_size.specs.Size.{mostBytes}
-use Rattle.opus.specs.Frames.{total, longest}
-use Rattle.opus.proofs.Lengths.{total-more, longest-more, total-most}
+use Rattle.opus_format.specs.Frames.{total, longest}
+use Rattle.opus_format.proofs.Lengths.{total-more, longest-more, total-most}
 use Rattle.repacketizer.specs.Parts.{measured}
 
 -- what was counted of the first i

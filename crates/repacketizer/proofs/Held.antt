@@ -11,12 +11,12 @@ use borrow.Author.Tests.{eqb-true, eqb-false}
 use Rattle.laws.proofs.Never.{by-test}
 use Rattle.opus_size.specs.Size.{mostBytes}
 use Rattle.opus_toc.specs.Toc.{upperSix}
-use Rattle.opus.specs.Frames.{total, longest}
-use Rattle.opus.specs.Format.{Lasts}
-use Rattle.opus.proofs.Counts.{lasts-few}
+use Rattle.opus_format.specs.Frames.{total, longest}
+use Rattle.opus_format.specs.Format.{Lasts}
+use Rattle.opus_format.proofs.Counts.{lasts-few}
 use Rattle.repacketizer.specs.declared.OpusRepacketizer.{OpusRepacketizer}
 use Rattle.repacketizer.specs.Collector.{heldLengths, leastStore, sound}
-use Rattle.opus.proofs.Lengths.{total-most}
+use Rattle.opus_format.proofs.Lengths.{total-most}
 use Rattle.repacketizer.proofs.Sound.{timed-lasts, sound-full}
 
 pub record Holding (rp : OpusRepacketizer) : Type 0 where

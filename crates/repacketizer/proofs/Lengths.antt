@@ -9,8 +9,8 @@ use mathlib.Core.Path.{_≡_, ap, sym, _∙_}
 use mathlib.Core.List.{List, [], _∷_, _++_, append-assoc}
 use lib.ListN.{length, getD, take, drop, set, length-append, length-drop}
 use lib.Seq.{sets, set-set, sets-eq, take-at, drop-at, length-take-le}
-use Rattle.opus.specs.Frames.{cut, total}
-use Rattle.opus.proofs.Lengths.{take-next, cut-append, cut-front}
+use Rattle.opus_format.specs.Frames.{cut, total}
+use Rattle.opus_format.proofs.Lengths.{take-next, cut-append, cut-front}
 use Rattle.blocks.specs.Blocks.{part, copied}
 use Rattle.blocks.proofs.Sets.{sets-next, length-part}
 

@@ -13,7 +13,7 @@ use Rattle.opus_defines.specs.declared.Verdict.{Verdict}
 use Rattle.opus_defines.specs.declared.Verdict.the-variants.{Accepted, Refused}
 use Rattle.opus_toc.specs.Toc.{samples}
 use Rattle.opus_toc.proofs.Samples.{lasts-at}
-use Rattle.opus.specs.Reading.{accepted, read}
+use Rattle.opus_format.specs.Reading.{accepted, read}
 use Rattle.repacketizer.specs.declared.OpusRepacketizer.{OpusRepacketizer}
 use Rattle.repacketizer.specs.Collector.{empty, held, leastStore}
 use Rattle.repacketizer.specs.Adding.{added, addedNumber}

@@ -6,7 +6,7 @@ use mathlib.Core.Path.{_≡_, refl, sym, _∙_}
 use mathlib.Core.List.{List, [], _∷_, _++_, append-assoc, append-nil}
 use mathlib.Core.Bool.{Bool}
 use lib.ListN.{length}
-use Rattle.opus.specs.Reading.{read, framesOf}
+use Rattle.opus_format.specs.Reading.{read, framesOf}
 use Rattle.repacketizer.specs.Collector.{empty, held, leastStore}
 use Rattle.repacketizer.specs.Adding.{added}
 use Rattle.repacketizer.specs.Runs.{State, Ready, AllBytes, afterAdd, afterAdds, framesIf, framesAccepted}

@@ -17,8 +17,8 @@ use Rattle.opus_defines.specs.declared.Refusal.the-variants.{InvalidState}
 use Rattle.opus_size.specs.Size.{mostBytes}
 use Rattle.opus_toc.specs.Toc.{upperSix, configuration, duration, samples}
 use Rattle.opus_toc.proofs.Samples.{lasts-at}
-use Rattle.opus.specs.Frames.{longest}
-use Rattle.opus.specs.Format.{Lasts}
+use Rattle.opus_format.specs.Frames.{longest}
+use Rattle.opus_format.specs.Format.{Lasts}
 use Rattle.repacketizer.specs.declared.OpusRepacketizer.{OpusRepacketizer}
 use Rattle.repacketizer.specs.Collector.{heldLengths, sound, nbFramesHeld}
 

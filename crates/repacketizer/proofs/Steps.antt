@@ -11,14 +11,14 @@ use lib.Seq.{length-sets}
 use Rattle.laws.specs.Bytes.{Bytes}
 use Rattle.laws.proofs.Never.{cond-elim}
 use Rattle.opus_size.specs.Size.{mostBytes}
-use Rattle.opus.specs.Frames.{total, longest}
-use Rattle.opus.specs.Reading.{accepted, read, framesOf}
-use Rattle.opus.proofs.Facts.{Facts, facts}
+use Rattle.opus_format.specs.Frames.{total, longest}
+use Rattle.opus_format.specs.Reading.{accepted, read, framesOf}
+use Rattle.opus_format.proofs.Facts.{Facts, facts}
 use Rattle.blocks.specs.Blocks.{part}
 use Rattle.repacketizer.specs.Collector.{held, heldLengths}
 use Rattle.repacketizer.specs.Adding.{Adding, goesWith, withFrames, added}
 use Rattle.repacketizer.specs.Runs.{State, Ready, afterAdd, framesIf}
-use Rattle.opus.proofs.Lengths.{longest-append}
+use Rattle.opus_format.proofs.Lengths.{longest-append}
 use Rattle.repacketizer.proofs.Lengths.{take-sets-at, cut-copied}
 use Rattle.repacketizer.proofs.Sound.{full-sound}
 use Rattle.repacketizer.proofs.Held.{Holding, holding}

@@ -9,7 +9,7 @@ use Rattle.opus_defines.specs.declared.Answer.the-variants.{Number, Refused}
 use Rattle.opus_defines.specs.declared.Refusal.the-variants.{InvalidState}
 use Rattle.opus_size.specs.Size.{mostBytes}
 use Rattle.opus_toc.specs.Toc.{configuration, samples}
-use Rattle.opus.specs.Frames.{cut, longest}
+use Rattle.opus_format.specs.Frames.{cut, longest}
 use Rattle.repacketizer.specs.declared.OpusRepacketizer.{OpusRepacketizer}
 
 -- what init and reset make

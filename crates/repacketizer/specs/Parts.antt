@@ -6,7 +6,7 @@ use lib.Dec.{eqb}
 use Rattle.opus_defines.specs.declared.Refusal.{Refusal}
 use Rattle.opus_defines.specs.declared.Verdict.the-variants.{Accepted, Refused}
 use Rattle.opus_toc.specs.Toc.{configuration, samples}
-use Rattle.opus.specs.Frames.{total, longest}
+use Rattle.opus_format.specs.Frames.{total, longest}
 use Rattle.repacketizer.specs.declared.OpusRepacketizer.{OpusRepacketizer}
 use Rattle.repacketizer.specs.declared.Added.{Added}
 use Rattle.repacketizer.specs.declared.Measured.{Measured}

@@ -7,7 +7,7 @@ use lib.ListN.{length}
 use Rattle.laws.specs.Bytes.{Bytes}
 use Rattle.opus_defines.specs.declared.Verdict.{Verdict}
 use Rattle.opus_defines.specs.declared.Verdict.the-variants.{Accepted, Refused}
-use Rattle.opus.specs.Reading.{read, framesOf}
+use Rattle.opus_format.specs.Reading.{read, framesOf}
 use Rattle.repacketizer.specs.declared.OpusRepacketizer.{OpusRepacketizer}
 use Rattle.repacketizer.specs.Collector.{leastStore, sound}
 use Rattle.repacketizer.specs.Adding.{added}

@@ -7,7 +7,7 @@ ghost use lib.ListN.{length};
 ghost use lib.Seq.{sets};
 ghost use Rattle.opus_defines.specs.Numbers.{numberOf};
 ghost use Rattle.opus_size.specs.Size.{mostBytes};
-ghost use Rattle.opus.specs.Frames.{total, longest};
+ghost use Rattle.opus_format.specs.Frames.{total, longest};
 ghost use Rattle.repacketizer.specs.Collector.{empty, heldLengths, sound, nbFramesHeld, leastStore};
 ghost use Rattle.repacketizer.specs.Adding.{goesWith, addBlock, addPacket, added};
 ghost use Rattle.repacketizer.specs.Parts.{measured, headOf, collectorOf, checked, refusedHead, moreFrames, addedOf};

@@ -19,18 +19,18 @@ use Rattle.laws.proofs.Never.{by-test, cond-elim}
 use Rattle.laws.proofs.Bytes.{bytes-nil, bytes-take, bytes-after}
 use Rattle.opus_size.specs.Size.{mostBytes}
 use Rattle.opus_toc.specs.Toc.{upperSix}
-use Rattle.opus.specs.Frames.{lengths, joined, total, longest}
-use Rattle.opus.specs.Format.{Lasts, Spells}
-use Rattle.opus.specs.Reading.{accepted, read}
-use Rattle.opus.proofs.Frames.{joined-cut, lengths-cut}
-use Rattle.opus.proofs.Counts.{lasts-few}
-use Rattle.opus.proofs.Complete.{spelled-read}
+use Rattle.opus_format.specs.Frames.{lengths, joined, total, longest}
+use Rattle.opus_format.specs.Format.{Lasts, Spells}
+use Rattle.opus_format.specs.Reading.{accepted, read}
+use Rattle.opus_format.proofs.Frames.{joined-cut, lengths-cut}
+use Rattle.opus_format.proofs.Counts.{lasts-few}
+use Rattle.opus_format.proofs.Complete.{spelled-read}
 use Rattle.opus_header.specs.Compact.{compact}
 use Rattle.opus_header.proofs.Spelled.{compact-spelled, compact-unpadded}
 use Rattle.repacketizer.specs.Collector.{held, heldLengths, leastStore}
 use Rattle.repacketizer.specs.Adding.{Adding, goesWith, withFrames, added}
 use Rattle.repacketizer.specs.Runs.{State, Ready, afterAdd, afterAdds}
-use Rattle.opus.proofs.Lengths.{longest-append}
+use Rattle.opus_format.proofs.Lengths.{longest-append}
 use Rattle.repacketizer.proofs.Sound.{lasts-timed, sound-full}
 use Rattle.repacketizer.proofs.Held.{Holding}
 use Rattle.repacketizer.proofs.Adds.{goes-none, goes-time, taken, add-sound, add-read, block-added}

@@ -26,7 +26,7 @@ use Rattle.opus_defines.specs.declared.Refusal.{Refusal}
 use Rattle.opus_defines.specs.declared.Refusal.the-variants.{BadArg, BufferTooSmall, InvalidState}
 use Rattle.opus_defines.specs.declared.Count.the-variants.{Negative}
 use Rattle.opus_toc.specs.Toc.{upperSix}
-use Rattle.opus.specs.Frames.{cut, total}
+use Rattle.opus_format.specs.Frames.{cut, total}
 use Rattle.blocks.proofs.Sets.{take-sets}
 use Rattle.opus_header.specs.Compact.{compact, filling}
 use Rattle.opus_header.proofs.Filling.{filling-length}

@@ -14,13 +14,13 @@ use Rattle.laws.proofs.Bytes.{bytes-nil, bytes-cons, bytes-append}
 use Rattle.opus_size.specs.Size.{mostBytes, lengthField, lengthFields}
 use Rattle.opus_size.proofs.Fields.{field-bytes}
 use Rattle.opus_toc.specs.Toc.{upperSix}
-use Rattle.opus.specs.Frames.{lengths, joined, longest}
-use Rattle.opus.specs.Format.{Padding, unpadded, padded, Layout, code0, code1, code2, code3equal, code3unequal, Spells, Behind, ownLength}
-use Rattle.opus.specs.Reading.{read, framesOf}
-use Rattle.opus.proofs.Frames.{total-lengths, longest-snoc, longest-same}
-use Rattle.opus.proofs.Padding.{padding-flag}
-use Rattle.opus.proofs.Counts.{lasts-few}
-use Rattle.opus.proofs.Complete.{spelled-six, spelled-frames}
+use Rattle.opus_format.specs.Frames.{lengths, joined, longest}
+use Rattle.opus_format.specs.Format.{Padding, unpadded, padded, Layout, code0, code1, code2, code3equal, code3unequal, Spells, Behind, ownLength}
+use Rattle.opus_format.specs.Reading.{read, framesOf}
+use Rattle.opus_format.proofs.Frames.{total-lengths, longest-snoc, longest-same}
+use Rattle.opus_format.proofs.Padding.{padding-flag}
+use Rattle.opus_format.proofs.Counts.{lasts-few}
+use Rattle.opus_format.proofs.Complete.{spelled-six, spelled-frames}
 use Rattle.opus_header.specs.Compact.{compact}
 use Rattle.opus_header.specs.Sums.{sumsOf}
 use Rattle.opus_header.proofs.Forms.{own-most, compact-front, compact-bytes, compact-size, sums-few}

@@ -10,8 +10,8 @@ use lib.ListN.{length, getD, replicate}
 use Rattle.laws.specs.Bytes.{Bytes}
 use Rattle.opus_defines.specs.Outcome.{writes}
 use Rattle.opus_toc.specs.Toc.{upperSix}
-use Rattle.opus.specs.Format.{Spells}
-use Rattle.opus.specs.Reading.{read, framesOf}
+use Rattle.opus_format.specs.Format.{Spells}
+use Rattle.opus_format.specs.Reading.{read, framesOf}
 use Rattle.opus_header.specs.Compact.{compact, filling}
 use Rattle.opus_header.proofs.Shortest.{shortest}
 use Rattle.opus_header.proofs.Spelled.{compact-spelled}

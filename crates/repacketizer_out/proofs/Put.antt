@@ -14,8 +14,8 @@ use lib.Seq.{sets}
 use Rattle.laws.proofs.Never.{cond-elim}
 use Rattle.opus_defines.specs.Outcome.{writes}
 use Rattle.opus_defines.specs.declared.Refusal.the-variants.{BufferTooSmall}
-use Rattle.opus.specs.Frames.{lengths, joined, cut, total}
-use Rattle.opus.proofs.Frames.{joined-cut, lengths-cut}
+use Rattle.opus_format.specs.Frames.{lengths, joined, cut, total}
+use Rattle.opus_format.proofs.Frames.{joined-cut, lengths-cut}
 use Rattle.blocks.specs.Blocks.{part, copied, filled}
 use Rattle.blocks.proofs.Sets.{sets-append, length-part}
 use Rattle.opus_header.specs.Header.{compactHeader, padBytes}

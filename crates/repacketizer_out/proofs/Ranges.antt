@@ -13,10 +13,10 @@ use lib.ListN.{length, take, drop, length-take, length-drop}
 use lib.Seq.{take-take, drop-drop}
 use Rattle.opus_size.specs.Size.{mostBytes}
 use Rattle.opus_toc.specs.Toc.{upperSix, duration}
-use Rattle.opus.specs.Frames.{lengths, cut, total, longest}
-use Rattle.opus.specs.Format.{Lasts}
-use Rattle.opus.proofs.Frames.{lengths-cut}
-use Rattle.opus.proofs.Lengths.{longest-take}
+use Rattle.opus_format.specs.Frames.{lengths, cut, total, longest}
+use Rattle.opus_format.specs.Format.{Lasts}
+use Rattle.opus_format.proofs.Frames.{lengths-cut}
+use Rattle.opus_format.proofs.Lengths.{longest-take}
 use Rattle.repacketizer.specs.declared.OpusRepacketizer.{OpusRepacketizer}
 use Rattle.repacketizer.specs.declared.Measured.{Measured}
 use Rattle.repacketizer.specs.Collector.{held, heldLengths, leastStore}

@@ -9,7 +9,7 @@ ghost use lib.Seq.{sets};
 ghost use Rattle.opus_defines.specs.Numbers.{numberOf};
 ghost use Rattle.opus_size.specs.Size.{mostBytes};
 ghost use Rattle.opus_toc.specs.Toc.{upperSix};
-ghost use Rattle.opus.specs.Frames.{cut, total, longest};
+ghost use Rattle.opus_format.specs.Frames.{cut, total, longest};
 ghost use Rattle.blocks.specs.Blocks.{part};
 ghost use Rattle.opus_header.specs.Sums.{sumsOf, headerOf};
 ghost use Rattle.repacketizer.specs.Collector.{held, leastStore, sound};

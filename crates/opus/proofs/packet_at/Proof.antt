@@ -4,7 +4,7 @@ use Prim.Native.Nat.{_+_}
 use mathlib.Core.Path.{_≡_, _∙_}
 use native.Mathlib.Omega.{arith}
 use borrow.Author.Needs.{needs}
-use Rattle.opus.specs.Parts.{endOf}
+use Rattle.opus_parts.specs.Parts.{endOf}
 use Rattle.opus.proofs.AtPacket.{head-found, head-broken, end-found}
 use Rattle.opus.proofs.packet_at.Statement.{statement}
 use Rattle.opus.proofs.packet_at.Tie as tie

@@ -9,7 +9,7 @@ use lib.Seq.{length-take-le}
 use borrow.Author.Needs.{needs}
 use borrow.Author.Tests.{not-true, not-false}
 use Rattle.opus_toc.specs.Toc.{upperSix}
-use Rattle.opus.proofs.Lengths.{longest-take}
+use Rattle.opus_format.proofs.Lengths.{longest-take}
 use Rattle.opus_header.proofs.Put.{Middle, front-room, fields-room, middle-same, middle-differ, middle-length, own-room, put-own, put-end}
 use Rattle.opus_header.proofs.put_header.Statement.{statement}
 use Rattle.opus_header.proofs.put_header.Tie as tie

@@ -9,7 +9,7 @@ use lib.IntN.{pos}
 use lib.ListN.{length, drop}
 use borrow.Author.Needs.{needs}
 use Rattle.opus_toc.specs.Toc.{upperSix}
-use Rattle.opus.specs.Frames.{cut}
+use Rattle.opus_format.specs.Frames.{cut}
 use Rattle.opus_header.specs.Compact.{compact}
 use Rattle.opus_header.proofs.Forms.{sums-few}
 use Rattle.packet_pad.proofs.Framed.{few-missing, compact-needs, compact-room, laid}

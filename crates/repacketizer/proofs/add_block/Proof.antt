@@ -9,7 +9,7 @@ use borrow.Author.Needs.{needs}
 use borrow.Author.Tests.{not-true, not-false}
 use lib.ListN.{length}
 use lib.Seq.{sets}
-use Rattle.opus.specs.Frames.{total}
+use Rattle.opus_format.specs.Frames.{total}
 use Rattle.repacketizer.specs.declared.Measured.{Measured}
 use Rattle.repacketizer.specs.Adding.{goesWith}
 use Rattle.repacketizer.specs.Parts.{collectorOf}

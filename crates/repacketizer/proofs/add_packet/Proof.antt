@@ -4,7 +4,7 @@ use mathlib.Core.Path.{sym}
 use native.Mathlib.Omega.{arith}
 use borrow.Author.Needs.{needs}
 use lib.Seq.{length-take-le}
-use Rattle.opus.proofs.Facts.{facts}
+use Rattle.opus_format.proofs.Facts.{facts}
 use Rattle.opus.proofs.Parsed.{Read, lengthsOf}
 use Rattle.opus.proofs.Lent.{packetWith}
 use Rattle.repacketizer.specs.Parts.{collectorOf}

@@ -5,7 +5,7 @@ use native.Mathlib.Omega.{arith}
 use lib.ListN.{length}
 use borrow.Author.Needs.{needs}
 use Rattle.opus_toc.specs.Toc.{upperSix}
-use Rattle.opus.specs.Frames.{total}
+use Rattle.opus_format.specs.Frames.{total}
 use Rattle.opus_header.specs.Sums.{headerOf}
 use Rattle.opus_header.proofs.Forms.{sums-few}
 use Rattle.repacketizer_out.proofs.Put.{put-refused, put-room, put-plain, put-padded}

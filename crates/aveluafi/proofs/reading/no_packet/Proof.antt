@@ -6,7 +6,7 @@ use lib.IntN.{ℤ}
 use mir.Syntax.{w32}
 use mir.Val.{toZ, ofZ}
 use borrow.Author.Needs.{needs}
-use Rattle.opus.specs.Answers.{padded48}
+use Rattle.opus_format.specs.Frames.{padded48}
 use Rattle.aveluafi.specs.declared.reading.AveluafiPacket.{AveluafiPacket}
 use Rattle.aveluafi.proofs.reading.no_packet.Statement.{statement}
 use Rattle.aveluafi.proofs.reading.no_packet.Tie as tie

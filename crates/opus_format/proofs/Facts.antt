@@ -1,0 +1,72 @@
+-- What callers know of a packet that was read, stated once.
+--     facts      count, lengths, places and time of an accepted packet
+-- Assumes nothing.
+use Prim.Native.Nat.{ℕ, suc, _+_, _*_, _/_, _≤_, _<_}
+use native.Mathlib.Omega.{arith}
+use mathlib.Core.Path.{_≡_, refl, sym, ap, _∙_}
+use mathlib.Core.List.{List, [], _∷_, _++_}
+use mathlib.Core.Bool.{Bool}
+use lib.Dec.{leb}
+use lib.ListN.{length, getD, take, drop, replicate, length-append, length-replicate}
+use lib.Seq.{length-take-le}
+use borrow.Author.Tests.{leb-true, le-leb}
+use Rattle.laws.specs.Bytes.{Bytes}
+use Rattle.opus_size.specs.Size.{mostBytes}
+use Rattle.opus_toc.specs.Toc.{upperSix, configuration, duration, samples}
+use Rattle.opus_toc.proofs.Samples.{lasts-at}
+use Rattle.opus_format.specs.Frames.{lengths, joined, cut, total, longest}
+use Rattle.opus_format.specs.Format.{Lasts, Layout, code0, code1, code2, code3equal, code3unequal, Spells}
+use Rattle.opus_format.specs.Reading.{accepted, read}
+use Rattle.opus_format.proofs.Frames.{total-lengths}
+use Rattle.opus_format.proofs.Counts.{lasts-few, two-last}
+use Rattle.opus_format.proofs.Sound.{Spelled, read-spelled}
+
+-- the frames of every layout last at most 120 ms
+pub layout-lasts : {sd : Bool} {six : ℕ} {head ns : List ℕ} {pad : ℕ} → Layout sd six head ns pad → Lasts six (length ns)
+layout-lasts {six = six} (code0 n) = two-last six 1 (omega arith) (omega arith)
+layout-lasts {six = six} (code1 n) = two-last six 2 (omega arith) (omega arith)
+layout-lasts {six = six} (code2 m n) = two-last six 2 (omega arith) (omega arith)
+layout-lasts (code3equal count n l d) = rw (length-replicate count n) l
+layout-lasts (code3unequal ns n l d) = let e : length (ns ++ (n ∷ [])) ≡ suc (length ns) = omega (arith, length-append ns (n ∷ [])) in rw e l
+
+-- and the TOC byte comes first
+pub layout-headed : {sd : Bool} {six : ℕ} {head ns : List ℕ} {pad : ℕ} → Layout sd six head ns pad → 1 ≤ length head
+layout-headed (code0 n) = omega arith
+layout-headed (code1 n) = omega arith
+layout-headed (code2 m n) = omega arith
+layout-headed (code3equal count n l d) = omega arith
+layout-headed (code3unequal ns n l d) = omega arith
+
+-- m is the length of what was read
+pub record Facts (m toc : ℕ) (ns : List ℕ) (first taken : ℕ) : Type 0 where
+  pub byte : toc < 256
+  pub some : 1 ≤ length ns
+  pub few : length ns ≤ 48
+  pub small : longest ns ≤ mostBytes
+  pub headed : 1 ≤ first
+  pub block : first + total ns ≤ taken
+  pub within : taken ≤ m
+  pub lasts : Lasts (upperSix toc) (length ns)
+  pub short : length ns * samples 48000 (configuration toc) ≤ 5760
+
+pub facts : (sd : Bool) (p : List ℕ) (toc : ℕ) (ns : List ℕ) (first taken : ℕ) → Bytes p → read sd p ≡ accepted toc ns first taken → Facts (length p) toc ns first taken
+facts sd p toc ns first taken bytes r =
+    let w = read-spelled sd p toc ns first taken bytes r in
+    let frames = cut ns (drop first p) in
+    let q = w .packet in
+    let byte : toc < 256 = omega (arith, w .toc-is, bytes .byte 0) in
+    let l : Lasts (upperSix toc) (length ns) = rw (w .lengths-are) at (layout-lasts (q .layout)) in
+    let sum : total ns ≡ length (joined frames) = sym (ap total (w .lengths-are)) ∙ total-lengths frames in
+    let parts : taken ≡ length (q .head) + (length (joined frames) + length (q .padding)) = sym (length-take-le taken p (w .within)) ∙ (ap length (q .bytes) ∙ (length-append (q .head) (joined frames ++ q .padding) ∙ ap (λ (n : ℕ). length (q .head) + n) (length-append (joined frames) (q .padding)))) in
+    let time = lasts-at 48000 refl (length ns) (configuration toc) (omega arith) in
+    record {
+      byte = byte;
+      some = l .some;
+      few = lasts-few l;
+      small = rw (w .lengths-are) at (q .small);
+      headed = omega (arith, w .place, layout-headed (q .layout));
+      block = omega (arith, w .place);
+      within = w .within;
+      lasts = l;
+      short = leb-true (length ns * samples 48000 (configuration toc)) 5760 (time ∙ le-leb (length ns * duration (configuration toc)) 1200 (l .short));
+    }

@@ -1,0 +1,9 @@
+pub mod Frames
+pub mod Fields
+pub mod Padding
+pub mod Fronts
+pub mod Counts
+pub mod Complete
+pub mod Sound
+pub mod Facts
+pub mod Lengths

@@ -1,0 +1,3 @@
+pub mod AtSizes
+pub mod AtPadding
+pub mod AtFrames

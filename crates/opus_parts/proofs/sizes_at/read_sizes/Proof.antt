@@ -1,0 +1,54 @@
+-- `opus_parts::sizes_at::read_sizes` meets its contract. The invariant: the array is the lengths read so far, and they with the fields from
+-- here on are all the fields.
+-- Assumes nothing.
+use Prim.Native.Nat.{_-_}
+use mathlib.Core.Path.{sym, _∙_}
+use borrow.Author.Needs.{needs}
+use Rattle.opus_size.proofs.At.{whole-was, short-was}
+use Rattle.opus_parts.proofs.AtSizes.{Sizes, sizes-start, sizes-more, sizes-cut, sizes-end}
+use Rattle.opus_parts.proofs.sizes_at.read_sizes.Statement.{statement}
+use Rattle.opus_parts.proofs.sizes_at.read_sizes.Tie as tie
+
+abbrev Inv-loop : tie.InvT-loop
+Inv-loop s k lengths₀ next₀ total₀ i₀ lengths next total i = Sizes s k lengths next total i
+
+abbrev μ-loop : tie.MeasureT-loop
+μ-loop s k lengths₀ next₀ total₀ i₀ lengths next total i = k - i
+
+loop-holds : tie.Need-loop-holds Inv-loop μ-loop
+loop-holds c = sizes-start _ _ _ (c .before .pre .1)
+
+returns : tie.Need-returns Inv-loop μ-loop
+returns c =
+    let l = c .before .before .before .before .loop in
+    sizes-cut _ _ _ _ _ _ (l .inv) (search needs) (short-was _ _ (sym (c .before .before .size-at .ensures) ∙ c .enum-told .given .1)) _
+
+loop-again : tie.Need-loop-again Inv-loop μ-loop
+loop-again c =
+    let b = c .before .before in
+    let l = b .before .before .before .before .loop in
+    sizes-more _ _ _ _ _ _ (l .inv) (search needs) (search needs) _ _ _
+    (whole-was _ _ _ _ (sym (b .before .before .size-at .ensures) ∙ b .f .given .1)) (c .wide .ensures .0) (c .wide .ensures .1)
+
+returns-2 : tie.Need-returns-2 Inv-loop μ-loop
+returns-2 c = sizes-end _ _ _ _ _ _ (c .before .loop .inv) (search needs)
+
+pub read-sizes-spec : {M : Type 1} → statement M
+read-sizes-spec =
+    tie.close
+    (tie.spec
+    Inv-loop
+    μ-loop
+    loop-holds
+    (λ c κs. search needs)
+    (λ c. search needs)
+    (λ c. search needs)
+    returns
+    (λ c. search needs)
+    (λ c. search needs)
+    (λ c κs. search needs)
+    (λ c. search needs)
+    (λ c. search needs)
+    (λ c. search needs)
+    loop-again
+    returns-2)

@@ -1,0 +1,140 @@
+// Frames behind their length fields: their place, and their lengths in a lent array. Where there are no frames, nothing is said of the array.
+ghost use mathlib.Core.Path.{_≡_};
+ghost use mathlib.Core.Bool.{true, false};
+ghost use mathlib.Core.List.{[]};
+ghost use Prim.Native.Nat.{_-_, _/_, _%_, _<_, _≤_};
+ghost use lib.ListN.{length};
+ghost use Rattle.opus_format.specs.Reading.{R6, R7, readFields, behindFields, equal, frames3};
+ghost use Rattle.opus_format.specs.Frames.{padded48};
+ghost use Rattle.opus_parts.specs.Parts.{SizesRead, FramesRead};
+use crate::sizes_at::SizesAt;
+use crate::sizes_at::read_sizes;
+use crate::sizes_at::same_lengths;
+use crate::sizes_at::wide;
+use opus_size::SizeAt;
+
+// The first frame's place in the slice and the sum of the lengths, or that there are no such frames.
+pub enum FramesAt {
+    At(usize, usize),
+    Broken,
+}
+
+// The last of k + 1 frames of unequal lengths takes the rest of the slice; the lengths of the others were read up to `next`.
+fn rest_last(s: &[u8], next: usize, sum: usize, k: usize, lengths: &mut [u16; 48]) -> FramesAt
+    requires read { ⌜ SizesRead (now s) (readFields k (now s)) (SizesAt.All next sum) (now lengths) ⌝ }
+    requires enough { ⌜ (k < 48) × (sum ≤ length (now s) - next) ⌝ }
+    ensures { λ r. ⌜ FramesRead (now (s .entry)) (behindFields false R7 (readFields k (now (s .entry)))) r (now (lengths .exit)) ⌝ }
+{
+    let left = s.len() - next;
+    let last = left - sum;
+    if opus_size::MOST_BYTES < last {
+        return FramesAt::Broken;
+    }
+    lengths[k] = last as u16;
+    FramesAt::At(next, left)
+}
+
+// The last of k + 1 frames of unequal lengths has a length field of its own, behind the others'.
+fn own_last(s: &[u8], next: usize, sum: usize, k: usize, lengths: &mut [u16; 48]) -> FramesAt
+    requires read { ⌜ SizesRead (now s) (readFields k (now s)) (SizesAt.All next sum) (now lengths) ⌝ }
+    requires enough { ⌜ (k < 48) × (sum ≤ length (now s) - next) ⌝ }
+    ensures { λ r. ⌜ FramesRead (now (s .entry)) (behindFields true R7 (readFields k (now (s .entry)))) r (now (lengths .exit)) ⌝ }
+{
+    let size = opus_size::size_at(s, next);
+    let SizeAt::Whole(last, first) = size else {
+        return FramesAt::Broken;
+    };
+    let total = sum + wide(last);
+    if s.len() - first < total {
+        return FramesAt::Broken;
+    }
+    lengths[k] = last;
+    FramesAt::At(first, total)
+}
+
+// Frames of unequal lengths: k length fields, and one frame more (codes 0 and 2, and code 3 with its flag).
+pub fn unequal_frames(s: &[u8], k: usize, self_delimited: bool, lengths: &mut [u16; 48]) -> FramesAt
+    requires { ⌜ (k < 48) × (now lengths ≡ padded48 []) ⌝ }
+    ensures { λ r. ⌜ FramesRead (now (s .entry)) (behindFields «self_delimited» R7 (readFields k (now (s .entry)))) r (now (lengths .exit)) ⌝ }
+{
+    let f = read_sizes(s, k, lengths);
+    let SizesAt::All(next, sum) = f else {
+        return FramesAt::Broken;
+    };
+    if s.len() - next < sum {
+        return FramesAt::Broken;
+    }
+    if self_delimited {
+        own_last(s, next, sum, k, lengths)
+    } else {
+        rest_last(s, next, sum, k, lengths)
+    }
+}
+
+// Frames of equal lengths that share the whole slice.
+fn shared_equal(s: &[u8], count: usize, lengths: &mut [u16; 48]) -> FramesAt
+    requires { ⌜ (1 ≤ count) × (count ≤ 48) × (now lengths ≡ padded48 []) ⌝ }
+    ensures { λ r. ⌜ FramesRead (now (s .entry)) (equal false R6 count (now (s .entry))) r (now (lengths .exit)) ⌝ }
+{
+    let len = s.len();
+    if len % count != 0 {
+        return FramesAt::Broken;
+    }
+    let each = len / count;
+    if opus_size::MOST_BYTES < each {
+        return FramesAt::Broken;
+    }
+    same_lengths(count, each as u16, lengths);
+    FramesAt::At(0, len)
+}
+
+// Frames of equal lengths behind a field that says their length.
+fn own_equal(s: &[u8], count: usize, lengths: &mut [u16; 48]) -> FramesAt
+    requires { ⌜ (1 ≤ count) × (count ≤ 48) × (now lengths ≡ padded48 []) ⌝ }
+    ensures { λ r. ⌜ FramesRead (now (s .entry)) (equal true R6 count (now (s .entry))) r (now (lengths .exit)) ⌝ }
+{
+    let size = opus_size::size_at(s, 0);
+    let SizeAt::Whole(each, first) = size else {
+        return FramesAt::Broken;
+    };
+    let total = count * wide(each);
+    if s.len() - first < total {
+        return FramesAt::Broken;
+    }
+    same_lengths(count, each, lengths);
+    FramesAt::At(first, total)
+}
+
+// Frames of equal lengths (code 1, and code 3 without its flag).
+pub fn equal_frames(
+    s: &[u8],
+    count: usize,
+    self_delimited: bool,
+    lengths: &mut [u16; 48],
+) -> FramesAt
+    requires { ⌜ (1 ≤ count) × (count ≤ 48) × (now lengths ≡ padded48 []) ⌝ }
+    ensures { λ r. ⌜ FramesRead (now (s .entry)) (equal «self_delimited» R6 count (now (s .entry))) r (now (lengths .exit)) ⌝ }
+{
+    if self_delimited {
+        own_equal(s, count, lengths)
+    } else {
+        shared_equal(s, count, lengths)
+    }
+}
+
+// The frames of code 3, of which the count byte says whether the lengths are unequal.
+pub fn frames_3(
+    s: &[u8],
+    count_byte: u8,
+    count: usize,
+    self_delimited: bool,
+    lengths: &mut [u16; 48],
+) -> FramesAt
+    requires { ⌜ (1 ≤ count) × (count ≤ 48) × (now lengths ≡ padded48 []) ⌝ }
+    ensures { λ r. ⌜ FramesRead (now (s .entry)) (frames3 «self_delimited» («count_byte» / 128 % 2) count (now (s .entry))) r (now (lengths .exit)) ⌝ }
+{
+    if count_byte / 128 % 2 == 0 {
+        return equal_frames(s, count, self_delimited, lengths);
+    }
+    unequal_frames(s, count - 1, self_delimited, lengths)
+}

@@ -1,0 +1,53 @@
+// Lengths that are put into a lent array of 48, which comes as zeros.
+ghost use mathlib.Core.Path.{_≡_};
+ghost use mathlib.Core.List.{[]};
+ghost use Prim.Native.Nat.{_<_, _≤_};
+ghost use lib.ListN.{replicate};
+ghost use Rattle.opus_format.specs.Reading.{readFields};
+ghost use Rattle.opus_format.specs.Frames.{padded48};
+ghost use Rattle.opus_parts.specs.Parts.{SizesRead};
+use opus_size::SizeAt;
+
+pub fn wide(x: u16) -> usize
+    ensures { λ r. ⌜ (r ≡ x) × (r < 65536) ⌝ }
+{
+    x as usize
+}
+
+// Several length fields at the front of a slice: the place behind them and the sum of the lengths, or that they are not all there.
+pub enum SizesAt {
+    All(usize, usize),
+    Cut,
+}
+
+pub fn read_sizes(s: &[u8], k: usize, lengths: &mut [u16; 48]) -> SizesAt
+    requires { ⌜ (k < 48) × (now lengths ≡ padded48 []) ⌝ }
+    ensures { λ r. ⌜ SizesRead (now (s .entry)) (readFields k (now (s .entry))) r (now (lengths .exit)) ⌝ }
+{
+    let mut next: usize = 0;
+    let mut total: usize = 0;
+    let mut i: usize = 0;
+    while i < k {
+        let f = opus_size::size_at(s, next);
+        let SizeAt::Whole(size, after) = f else {
+            return SizesAt::Cut;
+        };
+        lengths[i] = size;
+        total += wide(size);
+        next = after;
+        i += 1;
+    }
+    SizesAt::All(next, total)
+}
+
+// Equal lengths.
+pub fn same_lengths(count: usize, n: u16, lengths: &mut [u16; 48])
+    requires { ⌜ (count ≤ 48) × (now lengths ≡ padded48 []) ⌝ }
+    ensures { λ _. ⌜ now (lengths .exit) ≡ padded48 (replicate count n) ⌝ }
+{
+    let mut i: usize = 0;
+    while i < count {
+        lengths[i] = n;
+        i += 1;
+    }
+}
