@@ -8,9 +8,10 @@ use native.Mathlib.Nat.{add-zero}
 use native.Mathlib.Numerals.{add-one}
 use native.Mathlib.Omega.{arith}
 use lib.ListN.{length, getD, take, drop, length-drop}
-use lib.Seq.{getD-drop, drop-cons, drop-length}
+use lib.Seq.{getD-drop, drop-cons, drop-length, drop-drop, take-length}
 use lib.Dec.{leb, eqb, ltb}
-use borrow.Author.Tests.{le-leb, lt-leb, leb-true, eq-eqb, ne-eqb, le-ltb, lt-ltb}
+use borrow.Author.Tests.{le-leb, lt-leb, leb-true, eq-eqb, ne-eqb, eqb-false, le-ltb, lt-ltb}
+use Rattle.bytes.specs.Bytes.{slice, indexAfter, indexOf}
 use Rattle.opus_defines.specs.declared.Refusal.the-variants.{BadArg}
 use Rattle.capture.specs.declared.Record.{Record}
 use Rattle.capture.specs.Finding.{lengthIn, packetLength, packetAt, before, recordFrom, noRecord, withPassed, nextRecord}
@@ -76,6 +77,29 @@ pub before-le : (l : List ℕ) → before l ≤ length l
 unfolding before
 before-le [] = omega arith
 before-le (b ∷ l) = before-le-if b l (eqb (packetLength (b ∷ l)) 0) refl (before-le l)
+
+-- bytes that are not the first of a mark are all passed over
+before-skip-if : (b : ℕ) (l : List ℕ) (t : Bool) → eqb b 0x4B ≡ t → before l ≡ indexOf 0x4B l + before (drop (indexOf 0x4B l) l)
+    → before (b ∷ l) ≡ indexOf 0x4B (b ∷ l) + before (drop (indexOf 0x4B (b ∷ l)) (b ∷ l))
+unfolding indexOf indexAfter
+before-skip-if b l true e h = simp e (omega arith)
+before-skip-if b l false e h =
+    let none : packetLength (b ∷ l) ≡ 0 = length-first (b ∷ l) 0 (eqb-false b 0x4B e) in
+    simp e (omega (arith, before-later b l none))
+
+before-skip : (l : List ℕ) → before l ≡ indexOf 0x4B l + before (drop (indexOf 0x4B l) l)
+unfolding indexOf
+before-skip [] = omega arith
+before-skip (b ∷ l) = before-skip-if b l (eqb b 0x4B) refl (before-skip l)
+
+-- r is the first place from `at` on that holds such a byte, or the end
+pub record-skip : (s : List ℕ) (at r : ℕ) → r ≡ at + indexOf 0x4B (slice at (length s) s) → recordFrom s at ≡ recordFrom s r
+unfolding recordFrom slice
+record-skip s at r is =
+    let k = indexOf 0x4B (drop at s) in
+    let there : r ≡ at + k = rw take-length at is in
+    let e : at + before (drop at s) ≡ r + before (drop r s) = rw (there, ← drop-drop k at s) (omega (arith, before-skip (drop at s))) in
+    simp e
 
 -- ---- the first record at or after a place, at which a record's packet has n bytes, or there is none and n is 0
 module _ (s : List ℕ) (at n : ℕ) (is : n ≡ packetLength (drop at s)) where

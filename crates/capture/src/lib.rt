@@ -41,12 +41,11 @@ pub fn packet_length(data: &[u8], at: usize) -> usize
     if data.len() <= at {
         return 0;
     }
-    // First of all, since it is what most places fail on that are passed over.
-    if data[at] != 0x4B {
-        return 0;
-    }
     let left = data.len() - at;
     if left < HEAD_BYTES {
+        return 0;
+    }
+    if data[at] != 0x4B {
         return 0;
     }
     if data[at + 1] != 0x9D {
@@ -87,18 +86,19 @@ fn record_at(data: &[u8], at: usize) -> Record
     seek_mark(data, at + 1)
 }
 
-// The first record at or after a place. Places where none stands are passed over in a loop, and only one where one stands is handed to
-// `record_at`, which then answers without a further call: so the calls are never nested deeper than three, whatever the bytes are.
+// The first record at or after a place. Places where none stands are passed over in loops, those first that do not even begin a mark, and only one
+// where a record stands is handed to `record_at`, which then answers without a further call: so the calls are never nested deeper than
+// three, whatever the bytes are.
 fn seek_mark(data: &[u8], at: usize) -> Record
     requires { ⌜ at ≤ length (now «data») ⌝ }
     ensures { λ r. ⌜ r ≡ recordFrom (now («data» .entry)) at ⌝ }
 {
-    let mut place = at;
+    let mut place = bytes::scan::find(data, at, data.len(), 0x4B);
     while place < data.len() {
         if packet_length(data, place) != 0 {
             return record_at(data, place);
         }
-        place += 1;
+        place = bytes::scan::find(data, place + 1, data.len(), 0x4B);
     }
     Record {
         line: 0,

@@ -8,8 +8,9 @@ use lib.ListN.{length}
 use borrow.Fn.Kinds.{In}
 use borrow.Fn.PlainCycle.{Measures, is, falls, and}
 use Rattle.capture.specs.Finding.{recordFrom}
-use Rattle.capture.proofs.Laws.{within, record-here, record-later, record-none}
+use Rattle.capture.proofs.Laws.{within, record-here, record-later, record-skip, record-none}
 use Rattle.capture.proofs.Depth.{underRecordAt, underSeekMark, nothing-stands, one-stands}
+use Rattle.bytes.proofs.scan.find.Reads as find
 use Rattle.capture.proofs.packet_length.Reads as packet-length
 use Rattle.capture.proofs.record_at.Reads as record-at
 use Rattle.capture.proofs.record_at.Kinds as record-at-kinds
@@ -51,7 +52,7 @@ module _ (t : ℕ) where
   record-at-calls = (packet-length.Asked, packet-length.Learnt, seek-mark-below, seek-mark.Post)
 
   abbrev seek-mark-calls : seek-mark-lts.Claims
-  seek-mark-calls = (packet-length.Asked, packet-length.Learnt, record-at-below, record-at.Post)
+  seek-mark-calls = (find.Asked, find.Learnt, packet-length.Asked, packet-length.Learnt, record-at-below, record-at.Post)
 
   record-at-packet-length-requires : record-at-lts.Need-packet-length-requires record-at-calls record-at-given record-at.Post
   record-at-packet-length-requires c κs = tt
@@ -89,8 +90,14 @@ module _ (t : ℕ) where
       let n = c .before .before .packet-length in
       c .seek-mark .ensures ∙ sym (record-later (a .«data» .now) (a .at) (n .result) (n .ensures) (c .before .if1 .left) (omega arith))
 
+  seek-mark-find-requires : seek-mark-lts.Need-find-requires seek-mark-calls seek-mark-given seek-mark.Post Inv μ-loop
+  seek-mark-find-requires c κs = omega arith
+
   seek-mark-loop-holds : seek-mark-lts.Need-loop-holds seek-mark-calls seek-mark-given seek-mark.Post Inv μ-loop
-  seek-mark-loop-holds c = (omega arith, refl)
+  seek-mark-loop-holds c =
+      let a = c .before .before .args in
+      let f = c .find in
+      (omega (arith, f .ensures .0, f .ensures .1), record-skip (a .«data» .now) (a .at) (f .result) (f .ensures .0))
 
   seek-mark-packet-length-requires : seek-mark-lts.Need-packet-length-requires seek-mark-calls seek-mark-given seek-mark.Post Inv μ-loop
   seek-mark-packet-length-requires c κs = tt
@@ -98,30 +105,34 @@ module _ (t : ℕ) where
   seek-mark-record-at-requires : seek-mark-lts.Need-record-at-requires seek-mark-calls seek-mark-given seek-mark.Post Inv μ-loop
   seek-mark-record-at-requires c κs =
       let place = c .before .before .before .loop .place in
-      let s = c .before .before .before .before .before .args .«data» .now in
+      let s = c .before .before .before .before .before .before .args .«data» .now in
       let n = c .before .packet-length in
       omega (arith, one-stands s place (n .result) (n .ensures) (c .if1 .taken))
 
   seek-mark-returns : seek-mark-lts.Need-returns seek-mark-calls seek-mark-given seek-mark.Post Inv μ-loop
   seek-mark-returns c = c .record-at .ensures ∙ sym (c .before .before .before .before .loop .inv .1)
 
-  seek-mark-add-place : seek-mark-lts.Need-add-place seek-mark-calls seek-mark-given seek-mark.Post Inv μ-loop
-  seek-mark-add-place c = omega arith
+  seek-mark-add-find : seek-mark-lts.Need-add-find seek-mark-calls seek-mark-given seek-mark.Post Inv μ-loop
+  seek-mark-add-find c = omega arith
+
+  seek-mark-find-requires-2 : seek-mark-lts.Need-find-requires-2 seek-mark-calls seek-mark-given seek-mark.Post Inv μ-loop
+  seek-mark-find-requires-2 c κs = omega arith
 
   seek-mark-loop-less : seek-mark-lts.Need-loop-less seek-mark-calls seek-mark-given seek-mark.Post Inv μ-loop
-  seek-mark-loop-less c = omega arith
+  seek-mark-loop-less c = let f = c .find2 in omega (arith, f .ensures .0, f .ensures .1)
 
   seek-mark-loop-again : seek-mark-lts.Need-loop-again seek-mark-calls seek-mark-given seek-mark.Post Inv μ-loop
   seek-mark-loop-again c =
-      let l = c .before .before .before .loop in
-      let s = c .before .before .before .before .before .args .«data» .now in
-      let n = c .before .packet-length in
-      (omega arith, l .inv .1 ∙ record-later s (l .place) (n .result) (n .ensures) (c .if1 .left) (omega arith))
+      let l = c .before .before .before .before .loop in
+      let s = c .before .before .before .before .before .before .before .args .«data» .now in
+      let n = c .before .before .packet-length in
+      let f = c .find2 in
+      (omega (arith, f .ensures .0, f .ensures .1), l .inv .1 ∙ record-later s (l .place) (n .result) (n .ensures) (c .before .if1 .left) (omega arith) ∙ record-skip s (l .place + 1) (f .result) (f .ensures .0))
 
   seek-mark-returns-2 : seek-mark-lts.Need-returns-2 seek-mark-calls seek-mark-given seek-mark.Post Inv μ-loop
   seek-mark-returns-2 c =
       let l = c .before .loop in
-      let s = c .before .before .before .args .«data» .now in
+      let s = c .before .before .before .before .args .«data» .now in
       sym (l .inv .1 ∙ record-none s (l .place) (omega arith))
 
 pub +record-at+seek-mark-spec : {M : Type 1} → statement M
@@ -146,11 +157,13 @@ pub +record-at+seek-mark-spec : {M : Type 1} → statement M
     seek-mark.Post
     Inv
     μ-loop
+    (seek-mark-find-requires t)
     (seek-mark-loop-holds t)
     (seek-mark-packet-length-requires t)
     (seek-mark-record-at-requires t)
     (seek-mark-returns t)
-    (seek-mark-add-place t)
+    (seek-mark-add-find t)
+    (seek-mark-find-requires-2 t)
     (seek-mark-loop-less t)
     (seek-mark-loop-again t)
     (seek-mark-returns-2 t))

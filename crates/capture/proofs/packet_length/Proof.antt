@@ -14,13 +14,13 @@ returns c =
 
 returns-2 : tie.Need-returns-2
 returns-2 c =
-    let a = c .before .before .before .before .args in
-    sym (length-first (a .«data» .now) (a .at) (c .if2 .taken))
+    let a = c .before .before .before .args in
+    sym (length-cut (a .«data» .now) (a .at) (omega arith))
 
 returns-3 : tie.Need-returns-3
 returns-3 c =
     let a = c .before .before .before .before .before .args in
-    sym (length-cut (a .«data» .now) (a .at) (omega arith))
+    sym (length-first (a .«data» .now) (a .at) (c .if3 .taken))
 
 returns-4 : tie.Need-returns-4
 returns-4 c =
@@ -41,9 +41,7 @@ returns-5 c =
 returns-6 : tie.Need-returns-6
 returns-6 c =
     let a = c .before .before .before .before .before .before .before .before .before .before .before .before .args in
-    let second = c .before .before .before .before .before in
-    let first = second .before .before .before in
-    cc (length-whole (a .«data» .now) (a .at) (first .if2 .left) (second .if4 .left) (omega arith))
+    cc (length-whole (a .«data» .now) (a .at) (c .before .before .before .before .before .before .before .if3 .left) (c .before .before .before .before .before .if4 .left) (omega arith))
 
 pub packet-length-spec : {M : Type 1} → statement M
 packet-length-spec =
