@@ -146,26 +146,28 @@ impl<'a> Collector<'a> {
     }
 }
 
+/// The bytes of a record before its packet.
+pub const RECORD_HEAD: usize = 5;
+
 /// A record of a capture file, its packet a part of the capture.
 pub struct Record<'a> {
     pub line: u8,
     /// Of its mark.
     pub place: usize,
     pub packet: &'a [u8],
-    /// Bytes passed over before it.
-    pub passed: usize,
 }
 
-/// The bytes of a record before its packet.
-pub const RECORD_HEAD: usize = 5;
+/// What comes next in a capture, behind the bytes that were passed over.
+pub struct Next<'a> {
+    pub passed: usize,
+    /// None at the end.
+    pub record: Option<Record<'a>>,
+}
 
-/// The next record at or after `start`, or how many bytes are passed over up to the end where there is none.
-pub fn next_record(capture: &[u8], start: usize) -> Result<Result<Record<'_>, usize>, Refusal> {
+/// The next record at or after `start`, which is refused past the end.
+pub fn next_record(capture: &[u8], start: usize) -> Result<Next<'_>, Refusal> {
     let r = unsafe { aveluafi_next_record(capture.as_ptr(), capture.len(), start) };
     answer(r.number)?;
-    if r.length == 0 {
-        return Ok(Err(r.passed));
-    }
-    let packet = &capture[r.place + RECORD_HEAD..][..r.length];
-    Ok(Ok(Record { line: r.line, place: r.place, packet, passed: r.passed }))
+    let record = (r.length > 0).then(|| Record { line: r.line, place: r.place, packet: &capture[r.place + RECORD_HEAD..][..r.length] });
+    Ok(Next { passed: r.passed, record })
 }

@@ -3,7 +3,7 @@
 
 #[allow(dead_code)]
 mod aveluafi;
-use aveluafi::{next_record, read, unpad, Record, RECORD_HEAD};
+use aveluafi::{next_record, read, unpad, Record, Refusal, RECORD_HEAD};
 use std::io::Read;
 
 fn show(r: &Record) {
@@ -18,31 +18,24 @@ fn show(r: &Record) {
     }
 }
 
-fn tell(passed: usize, at: usize) {
-    if passed > 0 {
-        println!("passed over {} byte{} at {}", passed, if passed == 1 { "" } else { "s" }, at);
-    }
-}
-
-fn main() {
+fn main() -> Result<(), Refusal> {
     let mut capture = Vec::new();
     std::io::stdin().read_to_end(&mut capture).expect("standard input");
     let (mut records, mut passed, mut at) = (0, 0, 0);
-    let rest = loop {
-        match next_record(&capture, at).expect("a start within the capture") {
-            Err(rest) => break rest,
-            Ok(r) => {
-                tell(r.passed, at);
-                show(&r);
-                records += 1;
-                passed += r.passed;
-                at = r.place + RECORD_HEAD + r.packet.len();
-            }
+    loop {
+        let next = next_record(&capture, at)?;
+        if next.passed > 0 {
+            println!("passed over {} byte{} at {}", next.passed, if next.passed == 1 { "" } else { "s" }, at);
         }
-    };
-    tell(rest, at);
-    println!("{} records and {} bytes passed over in {}", records, passed + rest, capture.len());
+        passed += next.passed;
+        let Some(r) = next.record else { break };
+        show(&r);
+        records += 1;
+        at = r.place + RECORD_HEAD + r.packet.len();
+    }
+    println!("{} records and {} bytes passed over in {}", records, passed, capture.len());
     if let Err(refusal) = next_record(&capture, capture.len() + 1) {
         println!("a start past the end: {}", refusal as i32);
     }
+    Ok(())
 }
