@@ -2,7 +2,6 @@
 --     size-few                     the bytes used are a small number
 --     size-passed, rate-passed     a call is passed the bits of a signed number
 --     read-few, record-read, ..    a packet that was read, by its verdict
---     record-added                 an add, where the collector's lengths were lent
 --     record-found                 a record of a capture
 -- Assumes nothing.
 use Prim.Native.Nat.{ℕ, _-_, _≤_}
@@ -32,11 +31,8 @@ use Rattle.opus.specs.declared.Packet.{Packet}
 use Rattle.opus.specs.declared.PacketHead.{PacketHead}
 use Rattle.opus.proofs.Lent.{lent-accepted}
 use Rattle.opus_format.proofs.Facts.{facts}
-use Rattle.repacketizer.specs.Parts.{addedOf}
-use Rattle.repacketizer.specs.declared.Added.{Added}
-use Rattle.repacketizer.specs.declared.AddedHead.{AddedHead}
 use Rattle.capture.specs.declared.NextRecord.{NextRecord}
-use Rattle.aveluafi.specs.Records.{packetRecord, addRecord, captureRecord}
+use Rattle.aveluafi.specs.Records.{packetRecord, captureRecord}
 
 -- ---- a packet that was read, with its lengths in the array l
 few : (sd : Bool) (p : List ℕ) → Bytes p → parsed sd p .count ≤ 48
@@ -92,10 +88,6 @@ size-passed size s f = rw (toZ-ofZ w32 size f)
 
 pub rate-passed : (s : List ℕ) (rate : ℤ) → SFits w32 rate → samplesPerFrame s (toZ w32 (ofZ w32 rate)) ≡ samplesPerFrame s rate
 rate-passed s rate f = rw (toZ-ofZ w32 rate f)
-
--- ---- an add, where the collector's lengths were lent
-pub record-added : (r : AddedHead) (len : List ℕ) {a : Added} → addedOf r len ≡ a → {n : ℤ} → n ≡ verdictNumber (pos 0) (r .verdict) → record { number = n; rp = addedOf r len .rp } ≡ addRecord a
-record-added r len e m = rw m (ap addRecord e)
 
 -- ---- a record of a capture
 pub record-found : (r : NextRecord) {a : NextRecord} → r ≡ a → {n : ℤ} → n ≡ verdictNumber (pos 0) (r .verdict) → record { number = n; line = r .line; place = r .place; length = r .length; passed = r .passed } ≡ captureRecord a

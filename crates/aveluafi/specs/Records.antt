@@ -3,13 +3,10 @@ use Rattle.opus_size.specs.Answers.{sizeNumber}
 use Rattle.opus_size.specs.declared.Size.{Size}
 use Rattle.opus.specs.Answers.{packetNumber}
 use Rattle.opus.specs.declared.Packet.{Packet}
-use Rattle.repacketizer.specs.Adding.{addedNumber}
-use Rattle.repacketizer.specs.declared.Added.{Added}
 use Rattle.aveluafi.specs.declared.reading.AveluafiSize.{AveluafiSize}
 use Rattle.aveluafi.specs.declared.reading.AveluafiPacket.{AveluafiPacket}
 use Rattle.capture.specs.Finding.{recordNumber}
 use Rattle.capture.specs.declared.NextRecord.{NextRecord}
-use Rattle.aveluafi.specs.declared.collector.AddRecord.{AddRecord}
 use Rattle.aveluafi.specs.declared.captures.AveluafiRecord.{AveluafiRecord}
 
 abbrev pub sizeRecord : Size → AveluafiSize
@@ -24,9 +21,6 @@ packetRecord p =
       «payload_offset» = p .first;
       «packet_offset» = p .taken;
     }
-
-abbrev pub addRecord : Added → AddRecord
-addRecord a = record { number = addedNumber a; rp = a .rp }
 
 abbrev pub captureRecord : NextRecord → AveluafiRecord
 captureRecord r =

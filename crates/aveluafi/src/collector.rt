@@ -6,14 +6,7 @@ ghost use Rattle.opus_defines.specs.Numbers.{numberOf};
 ghost use Rattle.repacketizer.specs.Collector.{empty, nbFramesHeld};
 ghost use Rattle.repacketizer.specs.Adding.{addedNumber, added};
 ghost use Rattle.repacketizer_out.specs.Output.{outRange, outAll};
-ghost use Rattle.aveluafi.specs.Records.{addRecord};
 use repacketizer::OpusRepacketizer;
-
-// What an add hands back: its number, and the collector.
-pub struct AddRecord {
-    pub number: i32,
-    pub rp: OpusRepacketizer,
-}
 
 // A reset: any collector, sound or not, becomes empty.
 #[no_mangle]
@@ -21,27 +14,6 @@ pub extern "C" fn aveluafi_repacketizer_init(rp: &mut OpusRepacketizer)
     ensures { λ _. ⌜ now (rp .exit) ≡ empty ⌝ }
 {
     *rp = repacketizer::opus_repacketizer_init();
-}
-
-// An add, by value: on a refusal the collector handed in is handed back.
-pub fn cat(rp: OpusRepacketizer, data: &[u8], store: &mut [u8]) -> AddRecord
-    ensures { λ r. ⌜ (r ≡ addRecord (added false rp (now («data» .entry)) (now (store .entry)) .answer))
-        × (now (store .exit) ≡ added false rp (now («data» .entry)) (now (store .entry)) .store) ⌝ }
-{
-    let mut len = rp.len;
-    let a = repacketizer::add(repacketizer::head_of(rp), &mut len, data, false, store);
-    let framesize = a.framesize;
-    let v = a.verdict;
-    let number = opus_defines::verdict_number(0, v);
-    AddRecord {
-        number,
-        rp: OpusRepacketizer {
-            toc: a.toc,
-            nb_frames: a.count as u16,
-            framesize,
-            len,
-        },
-    }
 }
 
 // Adds an ordinary packet, and answers 0.
@@ -55,7 +27,7 @@ pub extern "C" fn aveluafi_repacketizer_cat(
         × (now (rp .exit) ≡ added false (now (rp .entry)) (now («data» .entry)) (now (store .entry)) .answer .rp)
         × (now (store .exit) ≡ added false (now (rp .entry)) (now («data» .entry)) (now (store .entry)) .store) ⌝ }
 {
-    let a = cat(*rp, data, store);
+    let a = collector_add::cat(*rp, data, store);
     *rp = a.rp;
     a.number
 }

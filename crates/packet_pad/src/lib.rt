@@ -30,9 +30,9 @@ fn move_block(data: &mut [u8], from: usize, to: usize, n: usize)
     ensures { λ _. ⌜ now («data» .exit) ≡ moved (now («data» .entry)) from to n ⌝ }
 {
     if to <= from {
-        blocks::move_down(data, from, to, n);
+        block_moves::move_down(data, from, to, n);
     } else {
-        blocks::move_up(data, from, to, n);
+        block_moves::move_up(data, from, to, n);
     }
 }
 

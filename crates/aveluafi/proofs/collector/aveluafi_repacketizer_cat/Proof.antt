@@ -43,15 +43,15 @@ use Rattle.repacketizer.specs.declared.OpusRepacketizer.{OpusRepacketizer}
 use Rattle.repacketizer.specs.Adding.{added}
 use Rattle.repacketizer.proofs.OpusRepacketizer as T
 use Rattle.repacketizer.proofs.OpusRepacketizer.Laws as T′
-use Rattle.aveluafi.specs.declared.collector.AddRecord.{AddRecord}
-use Rattle.aveluafi.specs.Records.{addRecord}
-use Rattle.aveluafi.proofs.collector.AddRecord as O
-use Rattle.aveluafi.proofs.collector.AddRecord.Laws as O′
+use Rattle.collector_add.specs.declared.AddRecord.{AddRecord}
+use Rattle.collector_add.specs.Records.{addRecord}
+use Rattle.collector_add.proofs.AddRecord as O
+use Rattle.collector_add.proofs.AddRecord.Laws as O′
 use Rattle.aveluafi.proofs.Lent.{opened, closed, freed, concluded}
-use Rattle.aveluafi.proofs.collector.cat as core
-use Rattle.aveluafi.proofs.collector.cat.Symbol as core-def
-use Rattle.aveluafi.proofs.collector.cat.Symbol.{name as #core}
-use Rattle.aveluafi.proofs.collector.cat.Met as core-thm
+use Rattle.collector_add.proofs.cat as core
+use Rattle.collector_add.proofs.cat.Symbol as core-def
+use Rattle.collector_add.proofs.cat.Symbol.{name as #core}
+use Rattle.collector_add.proofs.cat.Met as core-thm
 use Rattle.aveluafi.proofs.collector.aveluafi_repacketizer_cat.Key.{name as #lent}
 use Rattle.aveluafi.proofs.collector.aveluafi_repacketizer_cat as f
 use Rattle.aveluafi.proofs.collector.aveluafi_repacketizer_cat.Statement as stated
@@ -141,7 +141,7 @@ unfolding code.routine tablesOf
 aveluafi-repacketizer-cat-spec 𝓤 H 𝓜 𝓖 𝓡 =
     let W = givenOf 𝓤 H 𝓜 𝓖 in
     let 𝓣 = tablesOf 𝓤 H 𝓜 (tables 𝓤 H 𝓜 𝓡 code.env) in
-    let known = cited 𝓤 H (Core 𝓤 H (𝓖 .A) (𝓜 .mem) (𝓡 .run)) 𝓜 𝓡 code.env #core core-def.routine code.calls-aveluafi·collector·cat (core-thm.met 𝓤 H 𝓜 𝓖 𝓡) in
+    let known = cited 𝓤 H (Core 𝓤 H (𝓖 .A) (𝓜 .mem) (𝓡 .run)) 𝓜 𝓡 code.env #core core-def.routine code.calls-collector-add·cat (core-thm.met 𝓤 H 𝓜 𝓖 𝓡) in
     concluded 𝓤 H 𝓜 𝓖 𝓡 f.ended stayed (f.clauses 𝓤 H (𝓖 .A) (𝓜 .mem) (𝓡 .run)) code.env #lent code.function (code.unfolded 𝓤 H 𝓜 𝓡)
     (goes-ref 𝓤 H (𝓖 .A) W 3 0 tt (plain (λ _. T.the-row)), (goes-dropped 𝓤 H (𝓖 .A) W 3 (shrSliceOf (1 ∷ []) tt (plain (λ _. u8))) yes (λ κs x f. refl), (goes-gave-slice 𝓤 H (𝓖 .A) W 3 2 tt (plain (λ _. u8)), tt)))
     (λ κs. (ptr-vals, (slice-vals, (slice-vals, tt)))) (λ κs. (mut-tells (named 0) (κs .0) T.the-row, (shr-slice-tells (named 1) (κs .1 .0) u8, (mut-slice-tells (named 2) (κs .1 .1 .0) u8, tt))))

@@ -1,13 +1,13 @@
--- `aveluafi::collector::cat` meets its contract: the core's add, with the collector taken apart and put together again.
+-- `collector_add::cat` meets its contract: the core's add, with the collector taken apart and put together again.
 -- Assumes nothing.
 use mathlib.Core.Path.{_≡_, _∙_}
 use borrow.Author.Needs.{needs}
 use mir.Syntax.{w32}
 use mir.Val.{toZ, ofZ}
 use Rattle.repacketizer.proofs.Checks.{headed}
-use Rattle.aveluafi.proofs.Records.{record-added}
-use Rattle.aveluafi.proofs.collector.cat.Statement.{statement}
-use Rattle.aveluafi.proofs.collector.cat.Tie as tie
+use Rattle.collector_add.proofs.Added.{record-added}
+use Rattle.collector_add.proofs.cat.Statement.{statement}
+use Rattle.collector_add.proofs.cat.Tie as tie
 
 returns : tie.Need-returns
 returns c =
