@@ -10,7 +10,7 @@ use native.Mathlib.Omega.{arith}
 use lib.ListN.{length, getD, take, drop, length-drop}
 use lib.Seq.{getD-drop, drop-cons, drop-length, drop-drop, take-length}
 use lib.Dec.{leb, eqb, ltb}
-use borrow.Author.Tests.{le-leb, lt-leb, leb-true, eq-eqb, ne-eqb, eqb-false, le-ltb, lt-ltb}
+use borrow.Author.Tests.{le-leb, lt-leb, leb-true, eq-eqb, ne-eqb, eqb-true, eqb-false, le-ltb, lt-ltb}
 use Rattle.bytes.specs.Bytes.{slice, indexAfter, indexOf}
 use Rattle.opus_defines.specs.declared.Refusal.the-variants.{BadArg}
 use Rattle.capture.specs.declared.Record.{Record}
@@ -44,18 +44,34 @@ module _ (s : List ℕ) (at : ℕ) where
   length-whole a b h =
       simp (getD-drop, add-zero, length-drop, eq-eqb (getD s at 0) 0x4B a, eq-eqb (getD s (at + 1) 0) 0x9D b, le-leb (5 + lengthAt s at) (length s - at) h)
 
--- a record at the front of a list lies within it
-fits-if : (b₁ b₂ b₃ : Bool) (n k : ℕ) → (b₃ ≡ true → 5 + n ≤ k)
-    → (cond (b₁ && (b₂ && b₃)) n 0 ≡ 0 → ⊥) → 5 + cond (b₁ && (b₂ && b₃)) n 0 ≤ k
-fits-if true true true n k h f = h refl
-fits-if true true false n k h f = absurd (f refl)
-fits-if true false b₃ n k h f = absurd (f refl)
-fits-if false b₂ b₃ n k h f = absurd (f refl)
+-- where a record stands, its three tests hold, and its length is the one that is written
+tests-hold : (b₁ b₂ b₃ : Bool) (n : ℕ) → (cond (b₁ && (b₂ && b₃)) n 0 ≡ 0 → ⊥)
+    → (b₁ ≡ true) × (b₂ ≡ true) × (b₃ ≡ true) × (cond (b₁ && (b₂ && b₃)) n 0 ≡ n)
+tests-hold true true true n f = (refl, refl, refl, refl)
+tests-hold true true false n f = absurd (f refl)
+tests-hold true false b₃ n f = absurd (f refl)
+tests-hold false b₂ b₃ n f = absurd (f refl)
 
-pub length-fits : (l : List ℕ) → (packetLength l ≡ 0 → ⊥) → 5 + packetLength l ≤ length l
+pub record Head (l : List ℕ) : Type 0 where
+  pub first : getD l 0 0 ≡ 0x4B
+  pub second : getD l 1 0 ≡ 0x9D
+  pub fits : 5 + lengthIn l ≤ length l
+  pub long : packetLength l ≡ lengthIn l
+
+pub head-stands : (l : List ℕ) → (packetLength l ≡ 0 → ⊥) → Head l
 unfolding packetLength
-length-fits l f =
-    fits-if (eqb (getD l 0 0) 0x4B) (eqb (getD l 1 0) 0x9D) (leb (5 + lengthIn l) (length l)) (lengthIn l) (length l) (leb-true (5 + lengthIn l) (length l)) f
+head-stands l f =
+    let t = tests-hold (eqb (getD l 0 0) 0x4B) (eqb (getD l 1 0) 0x9D) (leb (5 + lengthIn l) (length l)) (lengthIn l) f in
+    record {
+      first = eqb-true (getD l 0 0) 0x4B (t .0);
+      second = eqb-true (getD l 1 0) 0x9D (t .1);
+      fits = leb-true (5 + lengthIn l) (length l) (t .2);
+      long = t .3;
+    }
+
+-- a record at the front of a list lies within it
+pub length-fits : (l : List ℕ) → (packetLength l ≡ 0 → ⊥) → 5 + packetLength l ≤ length l
+length-fits l f = let h = head-stands l f in omega (arith, h .fits, h .long)
 
 -- ---- the bytes before the first record
 -- where a record stands nothing is before it, and where none does one byte is passed over

@@ -4,17 +4,15 @@
 -- Assumes nothing.
 use mathlib.Core.Path.{_≡_, refl}
 use mathlib.Core.List.{List, [], _∷_, _++_}
-use mathlib.Core.Bool.{Bool, true, false, cond, _&&_}
 use Prim.Native.Nat.{ℕ, suc, _+_, _*_, _-_, _/_, _%_, _<_, _≤_}
 use native.Mathlib.Omega.{arith}
 use lib.ListN.{length, getD, take, drop, length-append, length-drop, take-append-drop}
 use lib.Seq.{take-append-seam, length-take-le}
-use lib.Dec.{leb, eqb}
-use borrow.Author.Tests.{le-leb, eqb-true}
+use borrow.Author.Tests.{le-leb}
 use Rattle.laws.specs.Bytes.{Bytes}
 use Rattle.capture.specs.Records.{Entry, Holds, written}
-use Rattle.capture.specs.Finding.{lengthIn, packetLength, packetAt}
-use Rattle.capture.proofs.Laws.{length-fits}
+use Rattle.capture.specs.Finding.{packetLength, packetAt}
+use Rattle.capture.proofs.Laws.{head-stands, length-fits}
 
 -- ---- what is written is found
 pub written-length : (e : Entry) → length (written e) ≡ 5 + length (e .packet)
@@ -44,20 +42,6 @@ unfolding packetAt
 written-packet e rest = rw (written-found e rest) (written-behind-head e rest)
 
 -- ---- what is found is written
--- where a record stands, the tests of it hold
-tests-hold : (b₁ b₂ b₃ : Bool) (n : ℕ) → (cond (b₁ && (b₂ && b₃)) n 0 ≡ 0 → ⊥)
-    → (b₁ ≡ true) × (b₂ ≡ true) × (cond (b₁ && (b₂ && b₃)) n 0 ≡ n)
-tests-hold true true true n f = (refl, refl, refl)
-tests-hold true true false n f = absurd (f refl)
-tests-hold true false b₃ n f = absurd (f refl)
-tests-hold false b₂ b₃ n f = absurd (f refl)
-
-found-head : (l : List ℕ) → (packetLength l ≡ 0 → ⊥) → (getD l 0 0 ≡ 0x4B) × (getD l 1 0 ≡ 0x9D) × (packetLength l ≡ lengthIn l)
-unfolding packetLength
-found-head l f =
-    let t = tests-hold (eqb (getD l 0 0) 0x4B) (eqb (getD l 1 0) 0x9D) (leb (5 + lengthIn l) (length l)) (lengthIn l) f in
-    (eqb-true (getD l 0 0) 0x4B (t .0), eqb-true (getD l 1 0) 0x9D (t .1), t .2)
-
 -- the record that is found at the front of a list
 abbrev pub entryIn : List ℕ → Entry
 entryIn l = record { line = getD l 2 0; packet = packetAt l 0 }
@@ -71,7 +55,7 @@ pub found-holds : (l : List ℕ) → Bytes l → (packetLength l ≡ 0 → ⊥) 
 found-holds l h f =
     record {
       some = omega (arith, found-length l f);
-      most = omega (arith, found-length l f, found-head l f .2, h .byte 3, h .byte 4);
+      most = omega (arith, found-length l f, head-stands l f .long, h .byte 3, h .byte 4);
     }
 
 head-and-packet : (a b c x y n : ℕ) (rest : List ℕ) → a ≡ 0x4B → b ≡ 0x9D → n ≡ 256 * x + y → y < 256 → length (take n rest) ≡ n
@@ -90,5 +74,5 @@ found-written (a ∷ b ∷ c ∷ []) h f = absurd (omega (arith, length-fits (a 
 found-written (a ∷ b ∷ c ∷ x ∷ []) h f = absurd (omega (arith, length-fits (a ∷ b ∷ c ∷ x ∷ []) f))
 found-written (a ∷ b ∷ c ∷ x ∷ y ∷ rest) h f =
     let l = a ∷ b ∷ c ∷ x ∷ y ∷ rest in
-    let head = found-head l f in
-    head-and-packet a b c x y (packetLength l) rest (head .0) (head .1) (head .2) (h .byte 4) (found-length l f)
+    let head = head-stands l f in
+    head-and-packet a b c x y (packetLength l) rest (head .first) (head .second) (head .long) (h .byte 4) (found-length l f)
