@@ -22,8 +22,10 @@ module _ (l : List ℕ) (at n : ℕ) where
   pub put-short : n < 252 → (set l at n ≡ sets l at (lengthField n)) × (at + 1 ≡ at + length (lengthField n))
   put-short h = rw (short n h) (refl, refl)
 
-  pub put-long : 252 ≤ n → (set (set l at (252 + n % 4)) (at + 1) ((n - 252) / 4) ≡ sets l at (lengthField n)) × (at + 2 ≡ at + length (lengthField n))
-  put-long h = rw (two-bytes n h) (rw add-one, refl)
+  pub put-long : 252 ≤ n → (set (set l at (252 + n % 4)) (at + 1) (n / 4 - 63) ≡ sets l at (lengthField n)) × (at + 2 ≡ at + length (lengthField n))
+  put-long h =
+      let second : (n - 252) / 4 ≡ n / 4 - 63 = omega arith in
+      rw (two-bytes n h, second) (rw add-one, refl)
 
 -- what `encode_size` leaves, by the tests on its way
 module _ (z : ℤ) (s : List ℕ) where

@@ -85,7 +85,7 @@ pub fn put_size(data: &mut [u8], at: usize, size: usize) -> usize
         return at + 1;
     }
     data[at] = (252 + size % 4) as u8;
-    data[at + 1] = ((size - 252) / 4) as u8;
+    data[at + 1] = (size / 4 - 63) as u8;
     at + 2
 }
 

@@ -45,6 +45,7 @@ put-size-spec =
     slice-write-data-2
     (λ c. search needs)
     (λ c. search needs)
+    (λ c. search needs)
     slice-write-data-3
     (λ c. search needs)
     (λ c. search needs)
