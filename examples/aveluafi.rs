@@ -9,14 +9,28 @@ use std::ops::Range;
 pub const MOST_FRAMES: usize = 48;
 pub const LEAST_STORE: usize = 61200;
 
-/// Why a call was refused; `refusal as i32` is the header's number.
+/// Why a call was refused.
 #[derive(Clone, Copy, Debug, PartialEq, Eq)]
 pub enum Refusal {
-    BadArg = -1,
-    BufferTooSmall = -2,
-    InternalError = -3,
-    InvalidPacket = -4,
-    InvalidState = -6,
+    BadArg,
+    BufferTooSmall,
+    InvalidPacket,
+    InvalidState,
+    /// A number that this file does not know: the archive that was linked is of another version.
+    Unknown(i32),
+}
+
+impl Refusal {
+    /// The header's number.
+    pub fn number(self) -> i32 {
+        match self {
+            Refusal::BadArg => -1,
+            Refusal::BufferTooSmall => -2,
+            Refusal::InvalidPacket => -4,
+            Refusal::InvalidState => -6,
+            Refusal::Unknown(number) => number,
+        }
+    }
 }
 
 fn answer(number: i32) -> Result<usize, Refusal> {
@@ -26,7 +40,7 @@ fn answer(number: i32) -> Result<usize, Refusal> {
         -2 => Err(Refusal::BufferTooSmall),
         -4 => Err(Refusal::InvalidPacket),
         -6 => Err(Refusal::InvalidState),
-        _ => Err(Refusal::InternalError),
+        _ => Err(Refusal::Unknown(number)),
     }
 }
 

@@ -41,7 +41,7 @@ fn main() -> Result<(), Refusal> {
 
     // A refusal changes nothing: the collector and its store are as they were, and can be used on.
     if let Err(refusal) = collector.add(&make(30, TOC | STEREO, 0xdd)) {
-        println!("refused a packet with other TOC bits: {}, still {} frames held", refusal as i32, collector.held());
+        println!("refused a packet with other TOC bits: {}, still {} frames held", refusal.number(), collector.held());
     }
 
     // All frames held, as one packet in its shortest form.

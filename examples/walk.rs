@@ -9,7 +9,7 @@ use std::io::Read;
 fn show(r: &Record) {
     print!("record at {}: line {}, {} bytes, ", r.place, r.line, r.packet.len());
     match read(r.packet, false) {
-        Err(refusal) => println!("not a packet ({})", refusal as i32),
+        Err(refusal) => println!("not a packet ({})", refusal.number()),
         Ok(p) => {
             let frames = p.frames().count();
             let without = unpad(&mut r.packet.to_vec()).expect("a packet that can be read can be stripped");
@@ -35,7 +35,7 @@ fn main() -> Result<(), Refusal> {
     }
     println!("{} records and {} bytes passed over in {}", records, passed, capture.len());
     if let Err(refusal) = next_record(&capture, capture.len() + 1) {
-        println!("a start past the end: {}", refusal as i32);
+        println!("a start past the end: {}", refusal.number());
     }
     Ok(())
 }

@@ -31,7 +31,6 @@ extern "C" {
 #define AVELUAFI_BAD_ARG (-1)         /* an argument outside its bound; an empty packet for samples, frame count, pad or unpad; a range that is not
                                          0 <= begin < end <= frames held; a store under 61,200 bytes; a start past a capture's end */
 #define AVELUAFI_BUFFER_TOO_SMALL (-2) /* the output is longer than the destination */
-#define AVELUAFI_INTERNAL_ERROR (-3)  /* unpad would have made the packet longer; proved never to happen */
 #define AVELUAFI_INVALID_PACKET (-4)  /* the packet breaks a rule of RFC 6716; its upper six TOC bits are not those held; over 120 ms held */
 #define AVELUAFI_INVALID_STATE (-6)   /* the collector was not made by these calls, or was written over */
 

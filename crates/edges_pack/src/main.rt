@@ -146,6 +146,22 @@ fn pad_cases() {
     unpad(&mut odd, 0);
 }
 
+// Packets that are rebuilt to as few bytes as can be, and to as many as they had.
+fn rebuilt_cases() {
+    let mut empty = [0u8];
+    unpad(&mut empty, 1);
+    let mut padded = [3, 0xc1, 0];
+    unpad(&mut padded, 3);
+    let mut many = [0x83, 0x30];
+    unpad(&mut many, 2);
+    let mut unequal = [3, 0x82, 1, 0xaa, 0xbb];
+    unpad(&mut unequal, 5);
+    let mut longer = [3, 1, 1, 0xaa, 0];
+    streams_unpad(&mut longer, 5, 2);
+    let mut least = [0u8, 0, 0];
+    streams_unpad(&mut least, 3, 2);
+}
+
 fn streams_pad(data: &mut [u8], len: i32, new_len: i32, streams: i32) {
     show::text(b"pad ");
     show::number(len);
@@ -182,4 +198,5 @@ fn main() {
     collector_cases();
     pad_cases();
     stream_cases();
+    rebuilt_cases();
 }

@@ -11,21 +11,17 @@ use native.Mathlib.Omega.{arith}
 use mathlib.Core.Path.{_≡_, refl}
 use mathlib.Core.List.{List, []}
 use mathlib.Core.Bool.{Bool, true, false}
-use lib.Dec.{ltb}
 use lib.ListN.{length, take, drop, length-append, length-drop}
-use lib.Seq.{length-take-le}
 use borrow.Rule.Slice.PartAt.{part-to-end}
 use Rattle.laws.specs.Bytes.{Bytes}
 use Rattle.laws.proofs.Bytes.{bytes-drop}
-use Rattle.laws.proofs.Never.{never, cond-elim}
-use Rattle.opus_defines.specs.declared.Refusal.the-variants.{BufferTooSmall}
+use Rattle.laws.proofs.Never.{never}
 use Rattle.opus_toc.specs.Toc.{upperSix}
 use Rattle.opus_format.specs.Frames.{cut}
 use Rattle.opus_format.specs.Reading.{Reading, refused, accepted, read}
 use Rattle.opus_format.proofs.Facts.{facts}
-use Rattle.opus_format.proofs.Sound.{read-spelled}
 use Rattle.opus_header.specs.Compact.{compact}
-use Rattle.packet_pad.proofs.Spelled.{never-longer}
+use Rattle.opus_header.proofs.Rebuilt.{rebuilds}
 use Rattle.multistream.specs.declared.Passed.{Passed}
 use Rattle.multistream.specs.declared.Passed.the-variants.{Past, Stuck}
 use Rattle.multistream.specs.Streams.{further, passStreams}
@@ -37,9 +33,7 @@ module _ (sd : Bool) (p : List ℕ) (toc : ℕ) (ns : List ℕ) (first taken : �
   taken-within = facts sd p toc ns first taken bytes r .within
 
   pub compact-within : length (compact sd (upperSix toc) (cut ns (drop first p))) ≤ taken
-  compact-within =
-      let w = read-spelled sd p toc ns first taken bytes r in
-      omega (arith, never-longer (w .packet), length-take-le taken p (w .within))
+  compact-within = rebuilds sd p toc ns first taken bytes r .1
 
 by-reading : (sd : Bool) (p : List ℕ) → Bytes p → (x : Reading) → read sd p ≡ x → (length (compactBy sd p x) ≤ takenBy x) × (takenBy x ≤ length p)
 by-reading sd p bytes (refused rule) r = (omega arith, omega arith)
@@ -84,8 +78,7 @@ reading-within sd next p bytes h = go (read sd p) refl
     go (accepted toc ns first taken) r =
         let q = compact sd (upperSix toc) (cut ns (drop first p)) in
         let rest : taken + length (packedOf (next (drop taken p))) ≤ length p = omega (arith, h taken, length-drop taken p, taken-within sd p toc ns first taken bytes r) in
-        cond-elim (λ x. length (packedOf x) ≤ length p) (ltb (length p) (length q)) (unread BufferTooSmall) (ahead q (next (drop taken p))) (λ t. omega arith)
-        (λ t. ahead-within q (next (drop taken p)) taken (length p) (compact-within sd p toc ns first taken bytes r) rest)
+        ahead-within q (next (drop taken p)) taken (length p) (compact-within sd p toc ns first taken bytes r) rest
 
 pub packed-within : (k : ℕ) (p : List ℕ) → Bytes p → length (packedOf (repackStreams k p)) ≤ length p
 packed-within zero p bytes = reading-within false (λ t. repacked []) p bytes (λ n. omega arith)

@@ -12,7 +12,6 @@ use mathlib.Core.List.{List, [], _∷_, _++_, append-assoc}
 use mathlib.Core.Bool.{Bool, true, false}
 use lib.ListN.{length, take, drop}
 use lib.Seq.{drop-append-seam, drop-drop, take-add}
-use borrow.Author.Tests.{le-ltb}
 use Rattle.laws.specs.Bytes.{Bytes}
 use Rattle.laws.proofs.Bytes.{bytes-drop}
 use Rattle.laws.proofs.Never.{never}
@@ -24,12 +23,11 @@ use Rattle.opus_format.proofs.Facts.{facts}
 use Rattle.opus_format.proofs.Sound.{read-spelled}
 use Rattle.opus_format.proofs.Complete.{spelled-read, spelled-six, spelled-frames}
 use Rattle.opus_header.specs.Compact.{compact}
-use Rattle.packet_pad.proofs.Spelled.{compact-of}
+use Rattle.opus_header.proofs.Rebuilt.{compact-of}
 use Rattle.multistream.specs.declared.Passed.the-variants.{Past}
 use Rattle.multistream.specs.Streams.{passStreams}
 use Rattle.multistream.specs.Unpad.{Repacked, repacked, repackReading, repackStreams}
 use Rattle.multistream.specs.Reading.{Stream, Streams, unreadable, streams, andStreams, thenStreams, readStreams}
-use Rattle.multistream.proofs.Bounds.{taken-within, compact-within}
 
 -- ---- one stream and those behind it
 abbrev pub streamAt : List ℕ → ℕ → List ℕ → ℕ → Stream
@@ -84,11 +82,8 @@ module _ (sd : Bool) (next : List ℕ → Streams) (p : List ℕ) (bytes : Bytes
   pub exchanged : {c : List ℕ} → Spells sd six c frames → (rest : List ℕ) → Behind sd rest → next rest ≡ streams (h .others) → thenStreams next (c ++ rest) (read sd (c ++ rest)) ≡ streams xs
   exchanged w rest b e = spelled-streams w rest b next ∙ rw (e, h .all)
 
-  -- the compact packet always has room
   repacks : (nextR : List ℕ → Repacked) (q : List ℕ) → nextR (drop (h .taken) p) ≡ repacked q → repackReading sd nextR p (read sd p) ≡ repacked (compact sd six frames ++ q)
-  repacks nextR q e =
-      let room : length (compact sd six frames) ≤ length p = omega (arith, compact-within sd p (h .toc) (h .ns) (h .first) (h .taken) bytes (h .means), taken-within sd p (h .toc) (h .ns) (h .first) (h .taken) bytes (h .means)) in
-      rw (h .means, le-ltb (length p) (length (compact sd six frames)) room, e)
+  repacks nextR q e = rw (h .means, e)
 
 -- ---- all streams
 pub readable-some : (k : ℕ) (p : List ℕ) → Bytes p → (xs : List Stream) → readStreams k p ≡ streams xs → 1 ≤ length p

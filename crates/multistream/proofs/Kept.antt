@@ -1,16 +1,20 @@
--- A refusal leaves every byte: whatever the reason, the outcome's bytes are those of the buffer.
+-- How the calls end, whatever the input.
+--     kept-by-pad, kept-by-unpad     a refusal leaves every byte: the outcome's bytes are those of the buffer
+--     unpad-ends                     unpad refuses by -1 or -4, or writes
 -- Assumes nothing.
-use Prim.Native.Nat.{ℕ, _-_, _≤_}
+use Prim.Native.Nat.{ℕ, zero, suc, _-_, _≤_}
 use native.Mathlib.Omega.{arith}
 use mathlib.Core.Path.{_≡_, refl, ap, _∙_}
-use mathlib.Core.List.{List}
+use mathlib.Core.List.{List, []}
+use mathlib.Core.Bool.{Bool, true, false}
 use lib.Dec.{ltb, eqb}
 use lib.IntN.{ℤ, pos, negsuc}
 use lib.ListN.{length, take, drop, length-drop, take-append-drop}
 use borrow.Author.Tests.{eqb-true, eqb-false}
 use Rattle.laws.proofs.Never.{never, by-test, cond-elim}
-use Rattle.opus_defines.specs.Outcome.{Outcome, refuses}
-use Rattle.opus_defines.specs.declared.Refusal.the-variants.{BadArg}
+use Rattle.opus_defines.specs.Outcome.{Outcome, refuses, writes}
+use Rattle.opus_defines.specs.declared.Refusal.the-variants.{BadArg, InvalidPacket}
+use Rattle.opus_format.specs.Reading.{Reading, refused, accepted, read}
 use Rattle.packet_pad.specs.Pad.{over}
 use Rattle.packet_pad.proofs.Calls.{within}
 use Rattle.packet_pad.proofs.Promises as packet
@@ -18,7 +22,7 @@ use Rattle.multistream.specs.declared.Passed.{Passed}
 use Rattle.multistream.specs.declared.Passed.the-variants.{Past, Stuck}
 use Rattle.multistream.specs.Streams.{passStreams}
 use Rattle.multistream.specs.Pad.{padLast, streamsPadLengths, streamsPadded}
-use Rattle.multistream.specs.Unpad.{Repacked, unread, repacked, repackStreams, writesPacked, streamsUnpadLength, streamsUnpadded}
+use Rattle.multistream.specs.Unpad.{Repacked, unread, repacked, ahead, repackReading, repackStreams, writesPacked, streamsUnpadLength, streamsUnpadded}
 use Rattle.multistream.specs.Parts.{streamsOf}
 use Rattle.multistream.proofs.Calls.{pad-negative, pad-to-negative, pad-no-streams, pad-over, pad-to-over, pad-within, unpad-negative, unpad-no-streams, unpad-over, unpad-within}
 use Rattle.multistream.proofs.Within.{padded-within}
@@ -60,19 +64,42 @@ module _ (s : List ℕ) (n : ℕ) where
       (λ t. by-test (over s (pos new)) (λ u. refusal (pad-to-over s (pos len) (pos new) nb len new refl refl refl t refl u))
       (λ u. same-kept n s (pad-within s (pos len) (pos new) nb len new refl refl refl t refl u k refl (eqb-false k 0 z)) (lengths-kept len new (within s len refl t) (within s new refl u) k))))
 
-  packed-kept : (x : Repacked) → Kept n s (writesPacked s x)
-  packed-kept (unread r) e = refl
-  packed-kept (repacked q) e = never (cc)
+-- ---- unpad
+-- streams that cannot be repacked are unreadable: there is always room
+abbrev Unreadable : Repacked → Type 0
+Unreadable (unread e) = e ≡ InvalidPacket
+Unreadable (repacked q) = Unit {0}
 
-  length-kept : (len k : ℕ) → Kept n s (streamsUnpadLength s len k)
+ahead-unreadable : (q : List ℕ) (x : Repacked) → Unreadable x → Unreadable (ahead q x)
+ahead-unreadable q (unread e) h = h
+ahead-unreadable q (repacked v) h = tt
+
+reading-unreadable : (sd : Bool) (next : List ℕ → Repacked) (p : List ℕ) → ((t : List ℕ) → Unreadable (next t)) → (x : Reading) → Unreadable (repackReading sd next p x)
+reading-unreadable sd next p h (refused rule) = refl
+reading-unreadable sd next p h (accepted toc ns first taken) = ahead-unreadable _ (next (drop taken p)) (h (drop taken p))
+
+streams-unreadable : (k : ℕ) (p : List ℕ) → Unreadable (repackStreams k p)
+streams-unreadable zero p = reading-unreadable false (λ t. repacked []) p (λ t. tt) (read false p)
+streams-unreadable (suc k) p = reading-unreadable true (repackStreams k) p (streams-unreadable k) (read true p)
+
+module _ (s : List ℕ) (P : Outcome → Type 0) (bad : P (refuses BadArg s)) (invalid : P (refuses InvalidPacket s)) (written : (q : List ℕ) → P (writes q s)) where
+  packed-ends : (x : Repacked) → Unreadable x → P (writesPacked s x)
+  packed-ends (unread e) h = rw h invalid
+  packed-ends (repacked q) h = written q
+
+  length-ends : (len k : ℕ) → P (streamsUnpadLength s len k)
   unfolding streamsUnpadLength
-  length-kept len k =
-      cond-elim (Kept n s) (ltb len 1) (refuses BadArg s) _ (λ t e. refl) (λ t. packed-kept (repackStreams (k - 1) (take len s)))
+  length-ends len k =
+      cond-elim P (ltb len 1) (refuses BadArg s) _ (λ t. bad)
+      (λ t. packed-ends (repackStreams (k - 1) (take len s)) (streams-unreadable (k - 1) (take len s)))
 
-  pub kept-by-unpad : (len nb : ℤ) → Kept n s (streamsUnpadded s len nb)
-  kept-by-unpad (negsuc len) nb = refusal (unpad-negative s (negsuc len) nb refl)
-  kept-by-unpad (pos len) nb =
+  pub unpad-ends : (len nb : ℤ) → P (streamsUnpadded s len nb)
+  unpad-ends (negsuc len) nb = rw (unpad-negative s (negsuc len) nb refl) bad
+  unpad-ends (pos len) nb =
       let k = streamsOf nb in
-      by-test (eqb k 0) (λ z. refusal (unpad-no-streams s (pos len) nb k refl (eqb-true k 0 z)))
-      (λ z. by-test (over s (pos len)) (λ t. refusal (unpad-over s (pos len) nb len refl refl t))
-      (λ t. same-kept n s (unpad-within s (pos len) nb len refl refl t k refl (eqb-false k 0 z)) (length-kept len k)))
+      by-test (eqb k 0) (λ z. rw (unpad-no-streams s (pos len) nb k refl (eqb-true k 0 z)) bad)
+      (λ z. by-test (over s (pos len)) (λ t. rw (unpad-over s (pos len) nb len refl refl t) bad)
+      (λ t. rw (unpad-within s (pos len) nb len refl refl t k refl (eqb-false k 0 z)) (length-ends len k)))
+
+pub kept-by-unpad : (s : List ℕ) (n : ℕ) (len nb : ℤ) → Kept n s (streamsUnpadded s len nb)
+kept-by-unpad s n = unpad-ends s (Kept n s) (λ e. refl) (λ e. refl) (λ q e. never (cc))

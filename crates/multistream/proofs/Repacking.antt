@@ -116,7 +116,7 @@ module _ (sd : Bool) (s : List ℕ) (to from len : ℕ) (places : (to ≤ from) 
         (rw a′ (sets-lent s to (compactOf sd (stream s from len))), rw (b′, taken-is), omega (arith, compact-fits, taken-fits))
 
 -- ---- one stream and those behind it
--- where the verdict is good, the stream was read and has room
+-- where the verdict is good, the stream was read
 module _ (sd : Bool) (next : List ℕ → Repacked) (p : List ℕ) where
   was-read : (x : Reading) → verdictOf (repackReading sd next p x) ≡ Accepted → isAccepted x ≡ true
   was-read (refused rule) v = never (cc)
@@ -124,8 +124,7 @@ module _ (sd : Bool) (next : List ℕ → Repacked) (p : List ℕ) where
 
   was-repacked : (x : Reading) → verdictOf (repackReading sd next p x) ≡ Accepted → repackReading sd next p x ≡ ahead (compactBy sd p x) (next (drop (takenBy x) p))
   was-repacked (refused rule) v = never (cc)
-  was-repacked (accepted toc ns first taken) v =
-      by-test (ltb (length p) (length (compact sd (upperSix toc) (cut ns (drop first p))))) (λ t. never (let y = rw t at v in cc)) (λ t. rw t)
+  was-repacked (accepted toc ns first taken) v = refl
 
 ahead-more : (a b : List ℕ) (x : Repacked) → ahead a (ahead b x) ≡ ahead (a ++ b) x
 ahead-more a b (unread e) = refl

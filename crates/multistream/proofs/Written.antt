@@ -17,7 +17,8 @@ use Rattle.opus_format.specs.Format.{Spells}
 use Rattle.opus_header.specs.Compact.{filling}
 use Rattle.opus_header.proofs.Filling.{filling-length}
 use Rattle.packet_pad.specs.Pad.{padsTo, padLengths}
-use Rattle.packet_pad.proofs.Spelled.{read-whole, filling-of, never-longer, pad-spelled}
+use Rattle.opus_header.proofs.Rebuilt.{never-longer}
+use Rattle.packet_pad.proofs.Spelled.{read-whole, filling-of, pad-spelled}
 use Rattle.multistream.specs.Pad.{streamsPadLengths}
 use Rattle.multistream.specs.Unpad.{streamsUnpadLength}
 use Rattle.multistream.specs.Reading.{Stream, Streams, streams, readStreams}

@@ -29,5 +29,16 @@ padCases =
     ∷ shows (outcome (streamsUnpadded (0x00 ∷ 0x01 ∷ 0xaa ∷ []) (pos 3) (pos 2))) (leaves (negsuc 3) (0x00 ∷ 0x01 ∷ 0xaa ∷ []))
     ∷ []
 
+-- document 02, M-109: rebuilt to between 1 byte and the bytes taken
+abbrev pub rebuiltCases : List Case
+rebuiltCases =
+    shows (outcome (unpadded (0x00 ∷ []) (pos 1))) (leaves (pos 1) (0x00 ∷ []))
+    ∷ shows (outcome (unpadded (0x03 ∷ 0xc1 ∷ 0x00 ∷ []) (pos 3))) (leaves (pos 1) (0x00 ∷ 0xc1 ∷ 0x00 ∷ []))
+    ∷ shows (outcome (unpadded (0x83 ∷ 0x30 ∷ []) (pos 2))) (leaves (pos 2) (0x83 ∷ 0x30 ∷ []))
+    ∷ shows (outcome (unpadded (0x03 ∷ 0x82 ∷ 0x01 ∷ 0xaa ∷ 0xbb ∷ []) (pos 5))) (leaves (pos 3) (0x01 ∷ 0xaa ∷ 0xbb ∷ 0xaa ∷ 0xbb ∷ []))
+    ∷ shows (outcome (streamsUnpadded (0x03 ∷ 0x01 ∷ 0x01 ∷ 0xaa ∷ 0x00 ∷ []) (pos 5) (pos 2))) (leaves (pos 4) (0x00 ∷ 0x01 ∷ 0xaa ∷ 0x00 ∷ 0x00 ∷ []))
+    ∷ shows (outcome (streamsUnpadded (0x00 ∷ 0x00 ∷ 0x00 ∷ []) (pos 3) (pos 2))) (leaves (pos 3) (0x00 ∷ 0x00 ∷ 0x00 ∷ []))
+    ∷ []
+
 abbrev pub allCases : List Case
-allCases = readingCases ++ padCases
+allCases = readingCases ++ (padCases ++ rebuiltCases)

@@ -5,7 +5,7 @@ use mathlib.Core.Bool.{Bool, true, false, cond}
 use lib.Dec.{ltb}
 use lib.IntN.{ℤ, pos, negsuc}
 use lib.ListN.{length, take, drop}
-use Rattle.opus_defines.specs.declared.Refusal.the-variants.{BufferTooSmall, InvalidPacket}
+use Rattle.opus_defines.specs.declared.Refusal.the-variants.{InvalidPacket}
 use Rattle.opus_defines.specs.declared.Verdict.{Verdict}
 use Rattle.opus_defines.specs.declared.Verdict.the-variants.{Accepted}
 use Rattle.opus_defines.specs.declared.Verdict.the-variants as Verdicts
@@ -45,10 +45,9 @@ isAccepted (accepted toc ns first taken) = true
 abbrev pub nextPlaces : ℕ → ℕ → Bool → List ℕ → Places
 nextPlaces to from sd s = record { to = to + length (compactOf sd s); from = from + takenBy (read sd s) }
 
-abbrev pub checkedBy : List ℕ → Bool → Reading → Checked
-checkedBy s sd (refused rule) = Refused InvalidPacket
-checkedBy s sd (accepted toc ns first taken) =
-    cond (ltb (length s) (length (compact sd (upperSix toc) (cut ns (drop first s))))) (Refused BufferTooSmall) (Taken taken)
+abbrev pub checkedBy : Reading → Checked
+checkedBy (refused rule) = Refused InvalidPacket
+checkedBy (accepted toc ns first taken) = Taken taken
 
 abbrev pub verdictBy : Checked → Verdict
 verdictBy (Taken n) = Accepted

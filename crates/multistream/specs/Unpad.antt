@@ -4,10 +4,10 @@ use mathlib.Core.List.{List, [], _++_}
 use mathlib.Core.Bool.{Bool, true, false, cond}
 use lib.Dec.{ltb}
 use lib.IntN.{ℤ, pos, negsuc}
-use lib.ListN.{length, take, drop}
+use lib.ListN.{take, drop}
 use Rattle.opus_defines.specs.Outcome.{Outcome, refuses, writes}
 use Rattle.opus_defines.specs.declared.Refusal.{Refusal}
-use Rattle.opus_defines.specs.declared.Refusal.the-variants.{BadArg, BufferTooSmall, InvalidPacket}
+use Rattle.opus_defines.specs.declared.Refusal.the-variants.{BadArg, InvalidPacket}
 use Rattle.opus_defines.specs.declared.Verdict.{Verdict}
 use Rattle.opus_defines.specs.declared.Verdict.the-variants.{Accepted, Refused}
 use Rattle.opus_toc.specs.Toc.{upperSix}
@@ -30,8 +30,7 @@ ahead q (repacked v) = repacked (q ++ v)
 abbrev pub repackReading : Bool → (List ℕ → Repacked) → List ℕ → Reading → Repacked
 repackReading sd next s (refused rule) = unread InvalidPacket
 repackReading sd next s (accepted toc ns first taken) =
-    cond (ltb (length s) (length (compact sd (upperSix toc) (cut ns (drop first s))))) (unread BufferTooSmall)
-    (ahead (compact sd (upperSix toc) (cut ns (drop first s))) (next (drop taken s)))
+    ahead (compact sd (upperSix toc) (cut ns (drop first s))) (next (drop taken s))
 
 -- k self-delimited streams and one ordinary one
 abbrev pub repackStreams : ℕ → List ℕ → Repacked

@@ -115,10 +115,10 @@ pub enum Checked {
     Refused(Refusal),
 }
 
-// Reads the stream at the front of `data`. Its compact form always has room there, since none is longer (`header-shortest`).
+// Reads the stream at the front of `data`. Its compact form always has room there, since it takes no more bytes (`rebuilds`).
 fn check_stream(data: &[u8], self_delimited: bool) -> Checked
     requires { ⌜ length (now «data») ≤ 65535 ⌝ }
-    ensures { λ r. ⌜ r ≡ checkedBy (now («data» .entry)) «self_delimited» (read «self_delimited» (now («data» .entry))) ⌝ }
+    ensures { λ r. ⌜ r ≡ checkedBy (read «self_delimited» (now («data» .entry))) ⌝ }
 {
     let mut lengths = [0u16; 48];
     let p = opus::read_into(data, self_delimited, &mut lengths);

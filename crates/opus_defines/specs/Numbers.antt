@@ -2,7 +2,7 @@
 use Prim.Native.Nat.{ℕ}
 use lib.IntN.{ℤ, pos, negsuc}
 use Rattle.opus_defines.specs.declared.Refusal.{Refusal}
-use Rattle.opus_defines.specs.declared.Refusal.the-variants.{BadArg, BufferTooSmall, InternalError, InvalidPacket, InvalidState}
+use Rattle.opus_defines.specs.declared.Refusal.the-variants.{BadArg, BufferTooSmall, InvalidPacket, InvalidState}
 use Rattle.opus_defines.specs.declared.Answer.{Answer}
 use Rattle.opus_defines.specs.declared.Answer.the-variants.{Number, Refused}
 use Rattle.opus_defines.specs.declared.Verdict.{Verdict}
@@ -10,11 +10,10 @@ use Rattle.opus_defines.specs.declared.Verdict.the-variants.{Accepted, R
 use Rattle.opus_defines.specs.declared.Count.{Count}
 use Rattle.opus_defines.specs.declared.Count.the-variants.{Is, Negative}
 
--- the one place where a refusal becomes its number: -1, -2, -3, -4 and -6
+-- the one place where a refusal becomes its number: -1, -2, -4 and -6
 abbrev pub refusalNumber : Refusal → ℤ
 refusalNumber BadArg = negsuc 0
 refusalNumber BufferTooSmall = negsuc 1
-refusalNumber InternalError = negsuc 2
 refusalNumber InvalidPacket = negsuc 3
 refusalNumber InvalidState = negsuc 5
 

@@ -12,7 +12,6 @@ pub const OPUS_OK: u16 = 0;
 pub enum Refusal {
     BadArg,
     BufferTooSmall,
-    InternalError,
     InvalidPacket,
     InvalidState,
 }
@@ -36,7 +35,6 @@ pub fn refusal_number(e: Refusal) -> i32
     match e {
         Refusal::BadArg => -1,
         Refusal::BufferTooSmall => -2,
-        Refusal::InternalError => -3,
         Refusal::InvalidPacket => -4,
         Refusal::InvalidState => -6,
     }

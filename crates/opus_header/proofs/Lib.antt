@@ -5,5 +5,6 @@ pub mod Sizes
 pub mod Counted
 pub mod Spelled
 pub mod Shortest
+pub mod Rebuilt
 pub mod Filling
 pub mod Forms

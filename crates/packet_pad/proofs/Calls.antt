@@ -6,7 +6,6 @@
 --     pad-read, pad-refused                          pad, by the reader's answer
 --     unpad-passed .. unpad-within                   unpad, by the length
 --     unpad-read, unpad-refused                      unpad, by the reader's answer
---     rebuilt-none, rebuilt-long, rebuilt-fits       unpad, by the compact packet's bytes
 -- Assumes nothing.
 use Prim.Native.Nat.{ℕ, _≤_, _<_}
 use native.Mathlib.Omega.{arith}
@@ -16,7 +15,6 @@ use mathlib.Core.Bool.{Bool, true, false, cond, _||_}
 use lib.Dec.{ltb}
 use lib.IntN.{ℤ, pos, negsuc}
 use lib.ListN.{length, take, drop, length-take}
-use lib.Seq.{length-take-le}
 use mir.Syntax.{w32}
 use mir.Val.{toZ, ofZ, SFits}
 use mir.ValLaws.{toZ-ofZ}
@@ -26,7 +24,7 @@ use Rattle.opus_defines.specs.Numbers.{countOf}
 use Rattle.opus_defines.specs.Outcome.{Outcome, refuses, writes}
 use Rattle.opus_defines.specs.declared.Count.the-variants.{Is, Negative}
 use Rattle.opus_defines.specs.declared.Refusal.{Refusal}
-use Rattle.opus_defines.specs.declared.Refusal.the-variants.{BadArg, InternalError}
+use Rattle.opus_defines.specs.declared.Refusal.the-variants.{BadArg}
 use Rattle.opus_defines.specs.declared.Verdict.the-variants.{Refused}
 use Rattle.opus_defines.proofs.Counts.{is-natural}
 use Rattle.opus_toc.specs.Toc.{upperSix}
@@ -35,7 +33,7 @@ use Rattle.opus.specs.Answers.{parsed}
 use Rattle.opus.specs.declared.Packet.{Packet}
 use Rattle.opus_header.specs.Compact.{compact, filling}
 use Rattle.packet_pad.specs.Pad.{over, padsTo, padPacket, padLengths, padded}
-use Rattle.packet_pad.specs.Unpad.{rebuilt, unpadPacket, unpadded}
+use Rattle.packet_pad.specs.Unpad.{unpadPacket, unpadded}
 use Rattle.opus.proofs.Parsed.{lengthsOf, parsed-refused}
 use Rattle.packet_pad.proofs.Framed.{Lies}
 
@@ -130,9 +128,9 @@ module _ (s : List ℕ) (len : ℕ) where
     unfolding padPacket
     pad-read new = rw (l .means, l .frames)
 
-    pub unpad-read : len ≤ length s → unpadPacket s len ≡ rebuilt s len (compact false (upperSix (r .toc)) (cut (lengthsOf r) (drop (r .first) s)))
+    pub unpad-read : unpadPacket s len ≡ writes (compact false (upperSix (r .toc)) (cut (lengthsOf r) (drop (r .first) s))) s
     unfolding unpadPacket
-    unpad-read h = rw (l .means, l .frames, length-take-le len s h)
+    unpad-read = rw (l .means, l .frames)
 
   module _ (r : Packet) (p : r ≡ parsed false (take len s)) (e : Refusal) (v : r .verdict ≡ Refused e) (short : len ≤ 65535) where
     few : length (take len s) ≤ 65535
@@ -145,14 +143,3 @@ module _ (s : List ℕ) (len : ℕ) where
     pub unpad-refused : unpadPacket s len ≡ refuses e s
     unfolding unpadPacket
     unpad-refused = let q = parsed-refused false (take len s) r p e v few in rw (q .1 .1, q .0)
-
--- ---- the compact packet q of `need` bytes
-module _ (s : List ℕ) (len : ℕ) (q : List ℕ) (need : ℕ) (n : length q ≡ need) where
-  pub rebuilt-none : need ≡ 0 → rebuilt s len q ≡ refuses InternalError s
-  rebuilt-none e = rw (n, e)
-
-  pub rebuilt-long : len < need → rebuilt s len q ≡ refuses InternalError s
-  rebuilt-long h = rw (n, lt-ltb 0 need (omega arith), lt-leb need len h)
-
-  pub rebuilt-fits : (need ≡ 0 → ⊥) → need ≤ len → rebuilt s len q ≡ writes q s
-  rebuilt-fits z h = rw (n, lt-ltb 0 need (omega arith), le-leb need len h)

@@ -1,7 +1,8 @@
 -- Frames that stand in a buffer, and the packet that is written for them.
 --     Lies, lies                          what is known of a packet that was read in the first bytes of a buffer
 --     few-missing, compact-needs          the form that is chosen, and the compact packet's bytes
---     laid, compact-room, padded-room     the packet that the form gives, which fits where there is room
+--     laid, padded-room                   the packet that the form gives, which fits where there is room
+--     compact-laid                        the compact packet, which fits where its header is no longer than what stands in front of the frames
 -- Assumes nothing.
 use Prim.Native.Nat.{ℕ, _+_, _≤_}
 use native.Mathlib.Omega.{arith}
@@ -29,12 +30,13 @@ use Rattle.opus_format.proofs.Sound.{read-spelled}
 use Rattle.opus_header.specs.Header.{compactHeader}
 use Rattle.opus_header.specs.Compact.{compact, filling}
 use Rattle.opus_header.specs.Sums.{sumsOf}
-use Rattle.opus_header.specs.Forms.{formFor, compactBytes, missing, formPacket}
+use Rattle.opus_header.specs.Forms.{compactForm, formFor, compactBytes, missing, formPacket}
 use Rattle.opus_header.specs.declared.Sums.{Sums}
 use Rattle.opus_header.specs.declared.Form.{Form}
 use Rattle.opus_header.proofs.Forms.{compact-missing, compact-bytes, compact-size, packet-formed}
 use Rattle.opus_header.proofs.Filling.{filling-length}
 use Rattle.opus_header.proofs.Shortest.{header-shortest}
+use Rattle.opus_header.proofs.Rebuilt.{rebuilds}
 use Rattle.opus_format.proofs.Lengths.{cut-take}
 use Rattle.opus.proofs.Parsed.{lengthsOf, parsed-accepted}
 
@@ -47,6 +49,8 @@ pub record Lies (sd : Bool) (s : List ℕ) (len : ℕ) (r : Packet) : Type 0 whe
   -- the compact header is no longer than the one that was read
   pub short : length (compactHeader sd (upperSix (r .toc)) (lengthsOf r)) ≤ r .first
   pub frames : cut (lengthsOf r) (drop (r .first) (take len s)) ≡ cut (lengthsOf r) (drop (r .first) s)
+  -- the compact packet is no longer than the one that was read
+  pub least : length (compact sd (upperSix (r .toc)) (cut (lengthsOf r) (drop (r .first) s))) ≤ len
 
 pub lies : (sd : Bool) (s : List ℕ) (len : ℕ) (r : Packet) → Bytes s → len ≤ length s → r ≡ parsed sd (take len s) → r .verdict ≡ Accepted → Lies sd s len r
 lies sd s len r bytes h e v =
@@ -57,13 +61,15 @@ lies sd s len r bytes h e v =
     let f = facts sd p (r .toc) ns (r .first) (r .taken) (bytes-take len s bytes) (d .means) in
     let w = read-spelled sd p (r .toc) ns (r .first) (r .taken) (bytes-take len s bytes) (d .means) in
     let within : r .first + total ns ≤ len = omega (arith, f .block, f .within) in
+    let frames : cut ns (drop (r .first) p) ≡ cut ns (drop (r .first) s) = cut-take ns (r .first) len s within h in
     record {
       inside = d .inside;
       means = d .means;
       some = (f .some, f .few, f .small);
       within = within;
       short = omega (arith, w .place, rw (w .lengths-are) at (header-shortest (w .packet .layout)));
-      frames = cut-take ns (r .first) len s within h;
+      frames = frames;
+      least = rw (← frames) (omega (arith, rebuilds sd p (r .toc) ns (r .first) (r .taken) (bytes-take len s bytes) (d .means), f .within));
     }
 
 -- ---- the packet that is written for frames that stand in the buffer s
@@ -95,10 +101,15 @@ module _ (sd : Bool) (six : ℕ) (ns s : List ℕ) (first : ℕ) (block : first 
     pub laid : (room : ℕ) (pad : Bool) (form : Form) → form ≡ formFor (length ns) need room pad → {s′ : List ℕ} → s′ ≡ sets s 0 (formPacket sd six ns form (part s first (total ns))) → s′ ≡ sets s 0 (cond pad (filling sd six frames room) (compact sd six frames))
     laid room pad form f e = rw (written room pad form f) at e
 
-    -- the compact packet and the padded one fit where there is room
-    pub compact-room : (room : ℕ) (form : Form) → form ≡ formFor (length ns) need room false → need ≤ length s → length (formPacket sd six ns form (part s first (total ns))) ≤ length s
-    compact-room room form f h = rw (written room false form f) (omega (arith, compact-needs))
-
+    -- the padded packet fits where there is room
     pub padded-room : (room : ℕ) (form : Form) → form ≡ formFor (length ns) need room true → need ≤ room → room ≤ length s → length (formPacket sd six ns form (part s first (total ns))) ≤ length s
     padded-room room form f h k =
         rw (written room true form f) (omega (arith, filling-length sd six frames room (omega (arith, compact-needs))))
+
+  -- the compact packet, behind at least as long a header
+  pub compact-laid : (form : Form) → form ≡ compactForm (length ns) → length (compactHeader sd six ns) ≤ first → (formPacket sd six ns form (part s first (total ns)) ≡ compact sd six frames) × (length (formPacket sd six ns form (part s first (total ns))) ≤ length s)
+  compact-laid form f short =
+      let m = sumsOf ns in
+      let need = compactBytes (length ns) m sd in
+      let is = written m refl need refl 0 false form f in
+      (is, rw is (omega (arith, compact-needs m refl need refl, compact-bytes sd six ns m refl, block)))

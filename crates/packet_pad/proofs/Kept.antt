@@ -9,7 +9,7 @@ use lib.IntN.{ℤ, pos, negsuc}
 use lib.ListN.{length, take, drop}
 use Rattle.laws.proofs.Never.{never, cond-elim}
 use Rattle.opus_defines.specs.Outcome.{Outcome, refuses, writes}
-use Rattle.opus_defines.specs.declared.Refusal.the-variants.{BadArg, InternalError}
+use Rattle.opus_defines.specs.declared.Refusal.the-variants.{BadArg}
 use Rattle.opus_toc.specs.Toc.{upperSix}
 use Rattle.opus_format.specs.Frames.{cut}
 use Rattle.opus_format.specs.Reading.{Reading, refused, accepted, read}
@@ -45,9 +45,7 @@ module _ (s : List ℕ) (n : ℕ) where
 
   unpad-reading : (p : List ℕ) (x : Reading) → Kept n s (unpadReading s p x)
   unpad-reading p (refused rule) = λ e. refl
-  unpad-reading p (accepted toc ns first taken) =
-      let q = compact false (upperSix toc) (cut ns (drop first p)) in
-      cond-elim (Kept n s) (ltb 0 (length q) && leb (length q) (length p)) (writes q s) (refuses InternalError s) (λ t e. never (cc)) (λ t e. refl)
+  unpad-reading p (accepted toc ns first taken) = λ e. never (cc)
 
   unpad-signed : (len : ℤ) → Kept n s (unpadSigned s len)
   unfolding unpadPacket

@@ -17,9 +17,10 @@ use Rattle.opus_format.specs.Format.{Spells}
 use Rattle.opus_format.specs.Reading.{accepted, read, framesOf}
 use Rattle.opus_header.specs.Compact.{compact, filling}
 use Rattle.opus_header.proofs.Filling.{filling-length}
+use Rattle.opus_header.proofs.Rebuilt.{spelled-some, compact-of, never-longer}
 use Rattle.packet_pad.specs.Pad.{padsTo, padded}
 use Rattle.packet_pad.specs.Unpad.{unpadded}
-use Rattle.packet_pad.proofs.Spelled.{read-whole, reads-back, compact-of, filling-of, never-longer, pad-spelled, unpad-spelled, unpad-written}
+use Rattle.packet_pad.proofs.Spelled.{read-whole, reads-back, filling-of, pad-spelled, unpad-spelled, unpad-written}
 use Rattle.packet_pad.proofs.Kept.{kept-by-pad, kept-by-unpad}
 
 -- a packet that the reader accepts, in the first len bytes of a buffer
@@ -37,9 +38,9 @@ module _ (s : List ℕ) (bytes : Bytes s) (len : ℕ) (fits : len ≤ length s) 
   pub unpad-is-compact : unpadded s (pos len) ≡ writes (compact false six frames) s
   unpad-is-compact = unpad-spelled s len fits most packet
 
-  -- which is no longer than the packet was,
-  pub unpad-never-grows : length (compact false six frames) ≤ len
-  unpad-never-grows = omega (arith, never-longer packet, length-take-le len s fits)
+  -- which has a byte and is no longer than the packet was (so that the crate's assertion holds, too),
+  pub unpad-never-grows : (1 ≤ length (compact false six frames)) × (length (compact false six frames) ≤ len)
+  unpad-never-grows = (spelled-some (compact-of packet), omega (arith, never-longer packet, length-take-le len s fits))
 
   -- and reads back as the same frames with the same upper six TOC bits.
   pub unpadded-reads-back : (framesOf (compact false six frames) (read false (compact false six frames)) ≡ frames) × (upperSix (getD (compact false six frames) 0 0) ≡ six)

@@ -1,19 +1,17 @@
 -- A packet that RFC 6716 spells, in the first bytes of a buffer: what pad and unpad make of it.
 --     read-whole                      what the ordinary reader accepts is spelled, whole
 --     reads-back                      what is spelled reads as its frames and upper six TOC bits
---     compact-of, filling-of          the packets for its frames are spelled too
---     never-longer                    the compact one is no longer than it
+--     filling-of                      the padded packet of its frames is spelled too
 --     pad-spelled, unpad-spelled      pad and unpad write those packets
 --     unpad-written                   and so does unpad of a packet that was written into the buffer
 -- Assumes nothing.
 use Prim.Native.Nat.{ℕ, _≤_, _<_}
 use native.Mathlib.Omega.{arith}
-use mathlib.Core.Path.{_≡_, refl, ap, _∙_}
+use mathlib.Core.Path.{_≡_, refl, _∙_}
 use mathlib.Core.List.{List, [], append-nil}
-use mathlib.Core.Logic.{⊎-elim}
 use mathlib.Core.Bool.{Bool, true, false}
 use lib.IntN.{pos}
-use lib.ListN.{length, getD, take, drop, length-append, length-map}
+use lib.ListN.{length, getD, take, drop}
 use lib.Seq.{sets, length-take-le, take-all, length-sets}
 use borrow.Author.Tests.{le-ltb}
 use Rattle.laws.specs.Bytes.{Bytes}
@@ -21,18 +19,16 @@ use Rattle.blocks.proofs.Sets.{take-sets}
 use Rattle.opus_defines.specs.Outcome.{writes}
 use Rattle.opus_toc.specs.Toc.{upperSix}
 use Rattle.opus_format.specs.Frames.{lengths, cut}
-use Rattle.opus_format.specs.Format.{Lasts, Spells, Behind}
+use Rattle.opus_format.specs.Format.{Spells, Behind}
 use Rattle.opus_format.specs.Reading.{accepted, read, framesOf}
 use Rattle.opus_format.proofs.Complete.{spelled-read, spelled-six, spelled-frames}
 use Rattle.opus_format.proofs.Sound.{read-spelled, ordinary-whole}
-use Rattle.opus_format.proofs.Facts.{layout-lasts, layout-headed}
 use Rattle.opus_header.specs.Compact.{compact, filling}
-use Rattle.opus_header.proofs.Shortest.{shortest}
-use Rattle.opus_header.proofs.Spelled.{compact-spelled}
+use Rattle.opus_header.proofs.Rebuilt.{spelled-lasts, spelled-some}
 use Rattle.opus_header.proofs.Filling.{filling-spelled}
 use Rattle.packet_pad.specs.Pad.{over, padsTo, padPacket, padded}
-use Rattle.packet_pad.specs.Unpad.{rebuilt, unpadPacket, unpadded}
-use Rattle.packet_pad.proofs.Calls.{pad-within, pad-more, unpad-within, rebuilt-fits}
+use Rattle.packet_pad.specs.Unpad.{unpadPacket, unpadded}
+use Rattle.packet_pad.proofs.Calls.{pad-within, pad-more, unpad-within}
 
 pub read-whole : (p : List ℕ) (toc : ℕ) (ns : List ℕ) (first taken : ℕ) → Bytes p → read false p ≡ accepted toc ns first taken → Spells false (upperSix toc) p (cut ns (drop first p))
 read-whole p toc ns first taken bytes r =
@@ -55,21 +51,8 @@ module _ {sd : Bool} {six : ℕ} {p : List ℕ} {frames : List (List ℕ)} (w : 
   unfolding framesOf
   cuts-back = rw reading at (reads-back .0)
 
-  lasts : Lasts six (length frames)
-  lasts = rw (length-map frames length) at (layout-lasts (w .layout))
-
-  pub compact-of : Spells sd six (compact sd six frames) frames
-  compact-of = compact-spelled sd six frames lasts (w .small)
-
   pub filling-of : (m : ℕ) → Spells sd six (filling sd six frames m) frames
-  filling-of m = filling-spelled sd six frames m lasts (w .small)
-
-  spelled-some : 1 ≤ length p
-  spelled-some = rw (w .bytes, length-append) (omega (arith, layout-headed (w .layout)))
-
-  pub never-longer : length (compact sd six frames) ≤ length p
-  never-longer =
-      ⊎-elim (λ (e : p ≡ compact sd six frames). omega (arith, ap length e)) (λ (h : length (compact sd six frames) < length p). omega arith) (shortest w)
+  filling-of m = filling-spelled sd six frames m (spelled-lasts w) (w .small)
 
 -- ---- pad and unpad
 pub not-over : (s : List ℕ) (n : ℕ) → n ≤ length s → n ≤ 65535 → over s (pos n) ≡ false
@@ -82,14 +65,14 @@ module _ {six : ℕ} {frames : List (List ℕ)} (s : List ℕ) (len : ℕ) (fits
   some : 1 ≤ len
   some = omega (arith, long, spelled-some w)
 
-  unpad-packet : unpadPacket s len ≡ rebuilt s len (compact false six frames)
+  unpad-packet : unpadPacket s len ≡ writes (compact false six frames) s
   unfolding unpadPacket
-  unpad-packet = rw (reading w, cuts-back w, spelled-six w, long)
+  unpad-packet = rw (reading w, cuts-back w, spelled-six w)
 
   pub unpad-spelled : unpadded s (pos len) ≡ writes (compact false six frames) s
   unpad-spelled =
       unpad-within s (pos len) len refl refl (not-over s len fits most) some
-      ∙ (unpad-packet ∙ rebuilt-fits s len (compact false six frames) (length (compact false six frames)) refl (λ z. omega (arith, spelled-some (compact-of w))) (omega (arith, never-longer w, long)))
+      ∙ unpad-packet
 
   pub pad-spelled : (new : ℕ) → len < new → new ≤ length s → new ≤ 65535 → padded s (pos len) (pos new) ≡ padsTo (filling false six frames new) s
   unfolding padPacket

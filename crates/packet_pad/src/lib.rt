@@ -16,7 +16,7 @@ ghost use Rattle.opus_header.specs.Compact.{compact, filling};
 ghost use Rattle.opus_header.specs.Sums.{sumsOf};
 ghost use Rattle.opus_header.specs.Forms.{missing, formPacket};
 ghost use Rattle.packet_pad.specs.Pad.{over, padPacket, padLengths, padded};
-ghost use Rattle.packet_pad.specs.Unpad.{rebuilt, unpadPacket, unpadded};
+ghost use Rattle.packet_pad.specs.Unpad.{unpadPacket, unpadded};
 use opus_defines::Answer;
 use opus_defines::Count;
 use opus_defines::Refusal;
@@ -149,24 +149,17 @@ pub fn opus_packet_pad(data: &mut [u8], len: i32, new_len: i32) -> i32
     opus_defines::number_of(pad_answer(data, len, new_len))
 }
 
-// Frames of lengths `ns` at place `first` become the compact packet, which takes the place of one of `len` bytes.
-fn unpad_frames(data: &mut [u8], toc: u8, ns: &[u16], first: usize, len: usize) -> Answer
+// Frames of lengths `ns` at place `first` become the compact packet, whose header is no longer than the one that stands in front of them.
+fn unpad_frames(data: &mut [u8], toc: u8, ns: &[u16], first: usize) -> usize
     requires some { ⌜ (1 ≤ length (now ns)) × (length (now ns) ≤ 48) × (longest (now ns) ≤ mostBytes) ⌝ }
-    requires block { ⌜ (first + total (now ns) ≤ len) × (len ≤ length (now «data»)) × (len ≤ 65535) ⌝ }
-    ensures number { λ r. ⌜ numberOf r ≡ rebuilt (now («data» .entry)) len (compact false (upperSix toc) (cut (now (ns .entry)) (drop first (now («data» .entry))))) .number ⌝ }
-    ensures bytes { λ _. ⌜ now («data» .exit) ≡ rebuilt (now («data» .entry)) len (compact false (upperSix toc) (cut (now (ns .entry)) (drop first (now («data» .entry))))) .bytes ⌝ }
+    requires block { ⌜ first + total (now ns) ≤ length (now «data») ⌝ }
+    requires short { ⌜ length (compactHeader false (upperSix toc) (now ns)) ≤ first ⌝ }
+    ensures bytes { λ _. ⌜ now («data» .exit) ≡ sets (now («data» .entry)) 0 (compact false (upperSix toc) (cut (now (ns .entry)) (drop first (now («data» .entry))))) ⌝ }
+    ensures next { λ r. ⌜ r ≡ length (compact false (upperSix toc) (cut (now (ns .entry)) (drop first (now («data» .entry))))) ⌝ }
 {
     let m = opus_header::sums_of(ns);
-    let need = opus_header::compact_bytes(ns.len(), m, false);
-    if need == 0 {
-        return Answer::Refused(Refusal::InternalError);
-    }
-    if len < need {
-        return Answer::Refused(Refusal::InternalError);
-    }
-    let form = opus_header::form_for(ns.len(), need, need, false);
-    rewrite(data, toc, ns, m, form, false, first);
-    Answer::Number(need as u16)
+    let form = opus_header::compact_form(ns.len());
+    rewrite(data, toc, ns, m, form, false, first)
 }
 
 // The packet in the first `len` bytes, without padding and in compact form.
@@ -181,7 +174,8 @@ fn unpad_packet(data: &mut [u8], len: usize) -> Answer
     let Verdict::Refused(e) = v else {
         let n = p.count;
         let first = p.first;
-        return unpad_frames(data, p.toc, &lengths[..n], first, len);
+        let bytes = unpad_frames(data, p.toc, &lengths[..n], first);
+        return Answer::Number(bytes as u16);
     };
     Answer::Refused(e)
 }

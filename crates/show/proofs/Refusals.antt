@@ -11,7 +11,7 @@ use mir.Val.{toZ, ofZ, SFits}
 use mir.ValLaws.{toZ-ofZ}
 use Rattle.opus_defines.specs.Numbers.{refusalNumber}
 use Rattle.opus_defines.specs.declared.Refusal.{Refusal}
-use Rattle.opus_defines.specs.declared.Refusal.the-variants.{BadArg, BufferTooSmall, InternalError, InvalidPacket, InvalidState}
+use Rattle.opus_defines.specs.declared.Refusal.the-variants.{BadArg, BufferTooSmall, InvalidPacket, InvalidState}
 use Rattle.show.specs.Text.{decimal, integer, refusedLabel, refusal}
 use Rattle.show.proofs.Laid.{Three, front-room}
 use Rattle.show.proofs.Digits.{decimal-most}
@@ -24,7 +24,6 @@ refusal-parts l x f h = record { whole = rw (toZ-ofZ w32 x f); room = front-room
 pub refusal-passed : (e : Refusal) → toZ w32 (ofZ w32 (refusalNumber e)) ≡ refusalNumber e
 refusal-passed BadArg = refl
 refusal-passed BufferTooSmall = refl
-refusal-passed InternalError = refl
 refusal-passed InvalidPacket = refl
 refusal-passed InvalidState = refl
 
@@ -37,6 +36,5 @@ pub refusal-most : (e : Refusal) → length (refusal (refusalNumber e)) ≤ 11
 unfolding refusal integer
 refusal-most BadArg = negative-most 1 (omega arith)
 refusal-most BufferTooSmall = negative-most 2 (omega arith)
-refusal-most InternalError = negative-most 3 (omega arith)
 refusal-most InvalidPacket = negative-most 4 (omega arith)
 refusal-most InvalidState = negative-most 6 (omega arith)

@@ -22,7 +22,6 @@ pub fn number(n: i32) {
         match n {
             -1 => text(b"-1"),
             -2 => text(b"-2"),
-            -3 => text(b"-3"),
             -4 => text(b"-4"),
             -6 => text(b"-6"),
             _ => text(b"unknown"),

@@ -1,4 +1,4 @@
--- `multistream::check_stream` meets its contract: the stream is read, and its compact form has room.
+-- `multistream::check_stream` meets its contract: the stream is read.
 -- Assumes nothing.
 use borrow.Author.Needs.{needs}
 use Rattle.opus.specs.Answers.{answerOf}
@@ -9,9 +9,8 @@ use Rattle.multistream.proofs.check_stream.Tie as tie
 returns : tie.Need-returns
 returns c =
     let r = c .before .before .read-into in
-    let k = c .before .before .before .before in
-    let a = k .before .args in
-    check-taken (a .self-delimited) (a .«data» .now) (answerOf (r .result) (r .last .1 .1 .0)) (r .ensures) (c .enum-told .given .1) (record { byte = λ i. k .shared-slice-known .given i .fits })
+    let a = c .before .before .before .before .before .args in
+    check-taken (a .self-delimited) (a .«data» .now) (answerOf (r .result) (r .last .1 .1 .0)) (r .ensures) (c .enum-told .given .1)
 
 returns-2 : tie.Need-returns-2
 returns-2 c =

@@ -1,7 +1,9 @@
 -- `packet_pad::unpad_packet` meets its contract: the packet is read, and its frames become the compact packet where they stand.
 -- Assumes nothing.
-use mathlib.Core.Path.{refl, sym}
+use native.Mathlib.Omega.{arith}
+use mathlib.Core.Path.{refl, sym, ap}
 use mathlib.Core.Bool.{false}
+use lib.IntN.{pos}
 use lib.Seq.{length-take-le}
 use borrow.Author.Needs.{needs}
 use Rattle.opus.specs.Answers.{answerOf}
@@ -36,7 +38,15 @@ unpad-frames-requires : tie.Need-unpad-frames-requires
 unpad-frames-requires c κs =
     let t = c .before .before in
     let s = t .before .before .before .before .before .before in
-    (lying t .some, (lying t .within, s .pre .0, s .pre .1))
+    let l = lying t in
+    (l .some, (omega (arith, l .within, s .pre), l .short))
+
+-- the compact packet is no longer than the packet was
+cast : tie.Need-cast-t17
+cast c =
+    let t = c .before .before .before .before .before in
+    let s = t .before .before .before .before .before .before in
+    omega (arith, c .before .before .unpad-frames .ensures .1, lying t .least, s .pre)
 
 returns : tie.Need-returns
 returns c =
@@ -44,7 +54,7 @@ returns c =
     let t = b .before .before .before in
     let s = t .before .before .before .before .before .before in
     let a = s .args in
-    meets (unpad-read (a .«data» .now) (a .len) (read t) (lying t) (s .pre .0)) (b .unpad-frames .ensures .0) (b .unpad-frames .ensures .1)
+    meets (unpad-read (a .«data» .now) (a .len) (read t) (lying t)) (ap pos (b .unpad-frames .ensures .1)) (b .unpad-frames .ensures .0)
 
 returns-2 : tie.Need-returns-2
 returns-2 c =
@@ -65,6 +75,7 @@ unpad-packet-spec =
     array-share-prefix-lengths
     slice-aggregate-unpad-frames
     unpad-frames-requires
+    cast
     (λ c. search needs)
     returns
     (λ c. search needs)
