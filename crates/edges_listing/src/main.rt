@@ -14,6 +14,7 @@ fn short_cases() {
     list(b"00", b"\x00");
     list(b"01 AA", b"\x01\xaa");
     list(b"03 02 AA BB", b"\x03\x02\xaa\xbb");
+    list(b"03 02", b"\x03\x02");
     list(b"1B 02", b"\x1b\x02");
     list(b"03 41 00", b"\x03\x41\x00");
     list(b"03 41 01 AA 00", b"\x03\x41\x01\xaa\x00");

@@ -22,7 +22,7 @@ use Rattle.opus_defines.specs.Numbers.{refusalNumber, verdictNumber}
 use Rattle.opus_defines.specs.declared.Refusal.{Refusal}
 use Rattle.opus_defines.specs.declared.Verdict.the-variants.{Accepted, Refused}
 use Rattle.opus_size.specs.Size.{mostBytes}
-use Rattle.opus_toc.specs.Toc.{upperSix, configuration, samples}
+use Rattle.opus_toc.specs.Toc.{upperSix}
 use Rattle.opus_format.specs.Frames.{total, longest}
 use Rattle.opus_format.specs.Reading.{Reading, refused, accepted, read}
 use Rattle.opus.specs.Answers.{packetOf, parsed}
@@ -36,8 +36,7 @@ use Rattle.packet_pad.proofs.Framed.{compact-needs}
 use Rattle.show.specs.Text.{refusal}
 use Rattle.show.proofs.Laid.{front-counts}
 use Rattle.show.proofs.Refusals.{refusal-passed, refusal-most}
-use Rattle.listing_text.specs.Listing.{time, packetText, listed, listing}
-use Rattle.listing_text.proofs.Frames.{busy-time}
+use Rattle.listing_text.specs.Listing.{packetText, listed, listing}
 use Rattle.listing_text.proofs.Room.{packet-most}
 
 pub answers : (l p t : List ℕ) {d : List ℕ} {n : ℕ} → listing p ≡ t → length t ≤ length l → d ≡ sets l 0 t → n ≡ length t → (d ≡ sets l 0 (listing p)) × ((n ≡ length (listing p)) × Counts n d)
@@ -58,10 +57,6 @@ pub record Read (p : List ℕ) (r : Packet) : Type 0 where
 small-most : (ns : List ℕ) → length ns ≤ 48 → longest ns ≤ mostBytes → compactBytes (length ns) (sumsOf ns) false < 100000
 small-most ns h k = omega (arith, compact-front (length ns), sums-few ns (sumsOf ns) refl h k)
 
-time-most : (toc : ℕ) (ns : List ℕ) → length ns * samples 48000 (configuration toc) ≤ 5760 → time toc ns < 100000
-unfolding time
-time-most toc ns h = omega (arith, busy-time ns (length ns) (samples 48000 (configuration toc)) (omega arith))
-
 pub listing-read : (p : List ℕ) (r : Packet) → Bytes p → r ≡ parsed false p → r .verdict ≡ Accepted → Read p r
 unfolding listing listed
 listing-read p r bytes e v =
@@ -74,7 +69,7 @@ listing-read p r bytes e v =
       some = (f .some, f .few, f .small);
       places = omega (arith, d .short);
       text = rw (le-ltb 65535 (length p) (d .short), d .means, compact-needs false (upperSix (r .toc)) ns p (r .first) within (sumsOf ns) refl (small r) refl);
-      room = packet-most (r .toc) ns (r .first) (r .taken) (small r) (omega (arith, f .byte)) (f .few) (time-most (r .toc) ns (f .short)) (omega (arith, d .short)) (omega (arith, f .within, d .short)) (small-most ns (f .few) (f .small));
+      room = packet-most (r .toc) ns (r .first) (r .taken) (small r) (omega (arith, f .byte)) (f .few) (omega (arith, f .short)) (omega (arith, d .short)) (omega (arith, f .within, d .short)) (small-most ns (f .few) (f .small));
     }
 
 -- ---- a packet that was refused

@@ -1,4 +1,4 @@
--- Document 01's example of a listing, by computation: the packet 03 02 AA BB.
+-- Listings by computation: document 01's example, 03 02 AA BB, and the same without its bytes (document 02, M-104).
 -- Assumes nothing.
 use Prim.Native.Nat.{ℕ}
 use mathlib.Core.Path.{_≡_, refl}
@@ -9,7 +9,7 @@ use Rattle.opus_header.specs.Header.{header}
 use Rattle.opus_header.specs.Compact.{compact}
 use Rattle.show.specs.Text.{places, decimal}
 use Rattle.listing_text.specs.Labels.{tocLabel, countLabel, timeLabel, payloadLabel, packetLabel, compactLabel, frameLabel, atLabel, lengthLabel}
-use Rattle.listing_text.specs.Listing.{line, busy, time, frameLine, frameLines, times, sizes, packetText, listed, listing}
+use Rattle.listing_text.specs.Listing.{line, frameLine, frameLines, times, sizes, packetText, listed, listing}
 
 -- a line of it to a line
 pub example : List ℕ
@@ -24,5 +24,21 @@ example =
     102 ∷ 114 ∷ 97 ∷ 109 ∷ 101 ∷ 32 ∷ 49 ∷ 32 ∷ 97 ∷ 116 ∷ 32 ∷ 51 ∷ 32 ∷ 108 ∷ 101 ∷ 110 ∷ 103 ∷ 116 ∷ 104 ∷ 32 ∷ 49 ∷ 10 ∷ []
 
 pub example-listing : listing (3 ∷ 2 ∷ 170 ∷ 187 ∷ []) ≡ example
-unfolding example listing listed packetText times sizes line frameLines frameLine time busy decimal places read compact header duration samples tocLabel countLabel timeLabel payloadLabel packetLabel compactLabel frameLabel atLabel lengthLabel
+unfolding example listing listed packetText times sizes line frameLines frameLine decimal places read compact header duration samples tocLabel countLabel timeLabel payloadLabel packetLabel compactLabel frameLabel atLabel lengthLabel
 example-listing = refl
+
+-- two frames that were not sent last as long
+pub silence : List ℕ
+silence =
+    116 ∷ 111 ∷ 99 ∷ 32 ∷ 51 ∷ 10 ∷
+    99 ∷ 111 ∷ 117 ∷ 110 ∷ 116 ∷ 32 ∷ 50 ∷ 10 ∷
+    116 ∷ 105 ∷ 109 ∷ 101 ∷ 32 ∷ 57 ∷ 54 ∷ 48 ∷ 10 ∷
+    112 ∷ 97 ∷ 121 ∷ 108 ∷ 111 ∷ 97 ∷ 100 ∷ 32 ∷ 50 ∷ 10 ∷
+    112 ∷ 97 ∷ 99 ∷ 107 ∷ 101 ∷ 116 ∷ 32 ∷ 50 ∷ 10 ∷
+    99 ∷ 111 ∷ 109 ∷ 112 ∷ 97 ∷ 99 ∷ 116 ∷ 32 ∷ 49 ∷ 10 ∷
+    102 ∷ 114 ∷ 97 ∷ 109 ∷ 101 ∷ 32 ∷ 48 ∷ 32 ∷ 97 ∷ 116 ∷ 32 ∷ 50 ∷ 32 ∷ 108 ∷ 101 ∷ 110 ∷ 103 ∷ 116 ∷ 104 ∷ 32 ∷ 48 ∷ 10 ∷
+    102 ∷ 114 ∷ 97 ∷ 109 ∷ 101 ∷ 32 ∷ 49 ∷ 32 ∷ 97 ∷ 116 ∷ 32 ∷ 50 ∷ 32 ∷ 108 ∷ 101 ∷ 110 ∷ 103 ∷ 116 ∷ 104 ∷ 32 ∷ 48 ∷ 10 ∷ []
+
+pub silence-takes-time : listing (3 ∷ 2 ∷ []) ≡ silence
+unfolding silence listing listed packetText times sizes line frameLines frameLine decimal places read compact header duration samples tocLabel countLabel timeLabel payloadLabel packetLabel compactLabel frameLabel atLabel lengthLabel
+silence-takes-time = refl

@@ -1,62 +1,17 @@
--- Frames one behind another: those that hold bytes, and their lines.
---     busy-none .. busy-time    no length, one length more, how many there can be
---     time-fits, time-is        their time
+-- Frames one behind another: their lines.
 --     Put                       the lines of the first i frames are put; its start, a turn, and its end
 -- Assumes nothing.
-use Prim.Native.Nat.{ℕ, zero, suc, _+_, _*_, _≤_, _<_}
-use native.Mathlib.Nat.{mul-le-mul-right}
+use Prim.Native.Nat.{ℕ, zero, suc, _+_, _≤_, _<_}
 use native.Mathlib.Omega.{arith}
 use mathlib.Core.Path.{_≡_, refl, ap, _∙_}
 use mathlib.Core.List.{List, [], _∷_, _++_, append-assoc, append-nil}
-use mathlib.Core.Bool.{cond}
-use lib.Dec.{eqb}
 use lib.ListN.{length, getD, take, drop, length-append}
 use lib.Seq.{split-at, take-all, length-take-le, length-sets}
-use mir.Syntax.{w64}
-use mir.Val.{Fits}
-use Rattle.laws.proofs.Never.{by-test}
-use Rattle.opus_toc.specs.Toc.{configuration, samples}
 use Rattle.opus_format.specs.Frames.{total}
 use Rattle.opus_format.proofs.Lengths.{take-next, total-more}
 use Rattle.show.proofs.Laid.{Laid, laid-then}
-use Rattle.listing_text.specs.Listing.{busy, time, frameLine, frameLines}
+use Rattle.listing_text.specs.Listing.{frameLine, frameLines}
 
--- ---- frames that hold bytes
-pub busy-none : 0 ≡ busy []
-unfolding busy
-busy-none = refl
-
-busy-append : (ms ns : List ℕ) → busy (ms ++ ns) ≡ busy ms + busy ns
-unfolding busy
-busy-append [] ns = omega arith
-busy-append (m ∷ ms) ns = omega (arith, busy-append ms ns)
-
-pub one-most : (n : ℕ) → cond (eqb n 0) 0 1 ≤ 1
-one-most n = by-test (eqb n 0) (λ t. rw t (omega arith)) (λ t. rw t (omega arith))
-
-pub busy-most : (ns : List ℕ) → busy ns ≤ length ns
-unfolding busy
-busy-most [] = omega arith
-busy-most (n ∷ ns) = omega (arith, one-most n, busy-most ns)
-
-pub busy-more : (ns : List ℕ) (i : ℕ) → i < length ns → {n k : ℕ} → n ≡ busy (take i ns) → k ≡ cond (eqb (getD ns i 0) 0) 0 1 → n + k ≡ busy (take (i + 1) ns)
-unfolding busy
-busy-more ns i h e g = rw (take-next ns i h) (omega (arith, busy-append (take i ns) (getD ns i 0 ∷ [])))
-
-pub busy-first : (ns : List ℕ) (i : ℕ) → i ≤ length ns → busy (take i ns) ≤ i
-busy-first ns i h = omega (arith, busy-most (take i ns), length-take-le i ns h)
-
-pub busy-time : (ns : List ℕ) (most k : ℕ) → length ns ≤ most → busy ns * k ≤ most * k
-busy-time ns most k h = mul-le-mul-right {m = busy ns} {n = most} k (omega (arith, busy-most ns))
-
-pub time-fits : (ns : List ℕ) {n k : ℕ} → n ≡ busy ns → length ns ≤ 48 → k < 65536 → Fits w64 (n * k)
-time-fits ns {k = k} e h s = rw e (record { fits = omega (arith, busy-time ns 48 k h) })
-
-pub time-is : (toc : ℕ) (ns : List ℕ) {n k : ℕ} → n ≡ busy ns → k ≡ samples 48000 (configuration toc) → n * k ≡ time toc ns
-unfolding time
-time-is toc ns e f = rw (e, f)
-
--- ---- lines
 total-take : (ns : List ℕ) (i : ℕ) → total (take i ns) ≤ total ns
 total-take ns zero = omega arith
 total-take [] (suc i) = omega arith

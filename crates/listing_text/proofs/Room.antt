@@ -4,11 +4,12 @@ use Prim.Native.Nat.{ℕ, suc, _+_, _*_, _≤_, _<_}
 use native.Mathlib.Omega.{arith}
 use mathlib.Core.List.{List, [], _∷_, _++_}
 use lib.ListN.{length, length-append}
+use Rattle.opus_toc.specs.Toc.{time}
 use Rattle.opus_format.specs.Frames.{total}
 use Rattle.show.specs.Text.{decimal}
 use Rattle.show.proofs.Digits.{decimal-most}
 use Rattle.listing_text.specs.Labels.{tocLabel, countLabel, timeLabel, payloadLabel, packetLabel, compactLabel, frameLabel, atLabel, lengthLabel}
-use Rattle.listing_text.specs.Listing.{line, time, frameLine, frameLines, times, sizes, packetText}
+use Rattle.listing_text.specs.Listing.{line, frameLine, frameLines, times, sizes, packetText}
 
 digits-most : (n : ℕ) → n < 100000 → length (decimal n) ≤ 5
 digits-most n h = decimal-most n 4 h
@@ -28,17 +29,17 @@ lines-most i at [] h k = omega arith
 lines-most i at (n ∷ ns) h k =
     omega (arith, length-append (frameLine i at n) (frameLines (suc i) (at + n) ns), frame-most i at n (omega arith) (omega arith) (omega arith), lines-most (suc i) (at + n) ns (omega arith) (omega arith))
 
-times-most : (toc : ℕ) (ns : List ℕ) → toc < 100000 → length ns ≤ 48 → time toc ns < 100000 → length (times toc ns) ≤ 33
+times-most : (toc : ℕ) (ns : List ℕ) → toc < 100000 → length ns ≤ 48 → time toc (length ns) < 100000 → length (times toc ns) ≤ 33
 unfolding times tocLabel countLabel timeLabel
 times-most toc ns h k m =
-    simp length-append (omega (arith, line-most tocLabel toc h, line-most countLabel (length ns) (omega arith), line-most timeLabel (time toc ns) m))
+    simp length-append (omega (arith, line-most tocLabel toc h, line-most countLabel (length ns) (omega arith), line-most timeLabel (time toc (length ns)) m))
 
 sizes-most : (first taken small : ℕ) → first < 100000 → taken < 100000 → small < 100000 → length (sizes first taken small) ≤ 41
 unfolding sizes payloadLabel packetLabel compactLabel
 sizes-most first taken small h k m =
     simp length-append (omega (arith, line-most payloadLabel first h, line-most packetLabel taken k, line-most compactLabel small m))
 
-pub packet-most : (toc : ℕ) (ns : List ℕ) (first taken small : ℕ) → toc < 100000 → length ns ≤ 48 → time toc ns < 100000 → first + total ns < 100000 → taken < 100000 → small < 100000 → length (packetText toc ns first taken small) ≤ 2048
+pub packet-most : (toc : ℕ) (ns : List ℕ) (first taken small : ℕ) → toc < 100000 → length ns ≤ 48 → time toc (length ns) < 100000 → first + total ns < 100000 → taken < 100000 → small < 100000 → length (packetText toc ns first taken small) ≤ 2048
 unfolding packetText
 packet-most toc ns first taken small h k m f t s =
     simp length-append (omega (arith, times-most toc ns h k m, sizes-most first taken small (omega arith) t s, lines-most 0 first ns (omega arith) f))

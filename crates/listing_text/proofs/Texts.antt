@@ -4,10 +4,11 @@ use Prim.Native.Nat.{ℕ, _+_, _≤_}
 use mathlib.Core.Path.{_≡_, refl}
 use mathlib.Core.List.{List, [], _∷_, _++_, append-assoc}
 use lib.ListN.{length}
+use Rattle.opus_toc.specs.Toc.{time}
 use Rattle.show.specs.Text.{decimal}
 use Rattle.show.proofs.Laid.{Three, front-room}
 use Rattle.listing_text.specs.Labels.{tocLabel, countLabel, timeLabel, payloadLabel, packetLabel, compactLabel, frameLabel, atLabel, lengthLabel}
-use Rattle.listing_text.specs.Listing.{line, time, frameLine, frameLines, times, sizes, packetText}
+use Rattle.listing_text.specs.Listing.{line, frameLine, frameLines, times, sizes, packetText}
 
 pub line-parts : (label : List ℕ) (n : ℕ) → line label n ≡ (label ++ decimal n) ++ (10 ∷ [])
 unfolding line
@@ -24,7 +25,7 @@ pub sizes-parts : (l : List ℕ) (at first taken small : ℕ) → at + length (s
 unfolding sizes
 sizes-parts l at first taken small h = record { whole = refl; room = h }
 
-pub times-parts : (l : List ℕ) (toc : ℕ) (ns : List ℕ) {t : ℕ} → t ≡ time toc ns → length (times toc ns) ≤ length l
+pub times-parts : (l : List ℕ) (toc : ℕ) (ns : List ℕ) {t : ℕ} → t ≡ time toc (length ns) → length (times toc ns) ≤ length l
     → Three l 0 (times toc ns) (line tocLabel toc) (line countLabel (length ns)) (line timeLabel t)
 unfolding times
 times-parts l toc ns e h = record { whole = rw e; room = front-room l (times toc ns) h }

@@ -1,13 +1,13 @@
 -- The text that the listing program writes for a packet (document 01, 'The listing program'). 10 is the end of a line.
-use Prim.Native.Nat.{ℕ, suc, _+_, _*_}
+use Prim.Native.Nat.{ℕ, suc, _+_}
 use mathlib.Core.List.{List, [], _∷_, _++_}
 use mathlib.Core.Bool.{false, cond}
-use lib.Dec.{ltb, eqb}
+use lib.Dec.{ltb}
 use lib.ListN.{length, drop}
 use Rattle.opus_defines.specs.Numbers.{refusalNumber}
 use Rattle.opus_defines.specs.declared.Refusal.{Refusal}
 use Rattle.opus_defines.specs.declared.Refusal.the-variants.{BadArg, InvalidPacket}
-use Rattle.opus_toc.specs.Toc.{upperSix, configuration, samples}
+use Rattle.opus_toc.specs.Toc.{upperSix, time}
 use Rattle.opus_format.specs.Frames.{cut}
 use Rattle.opus_format.specs.Reading.{Reading, refused, accepted, read}
 use Rattle.opus_header.specs.Compact.{compact}
@@ -17,16 +17,6 @@ use Rattle.listing_text.specs.Labels.{tocLabel, countLabel, timeLabel, p
 -- a label and a number
 unfoldable pub line : List ℕ → ℕ → List ℕ
 line label n = label ++ (decimal n ++ (10 ∷ []))
-
--- ---- frames that hold bytes
--- how many of the lengths are not 0
-unfoldable pub busy : List ℕ → ℕ
-busy [] = 0
-busy (n ∷ ns) = cond (eqb n 0) 0 1 + busy ns
-
--- samples at 48 kHz of the frames that hold bytes; an empty frame adds none
-unfoldable pub time : ℕ → List ℕ → ℕ
-time toc ns = busy ns * samples 48000 (configuration toc)
 
 -- ---- a packet that was read
 -- frame i stands at a place and has n bytes
@@ -40,7 +30,7 @@ frameLines i at (n ∷ ns) = frameLine i at n ++ frameLines (suc i) (at + n) ns
 
 -- the TOC byte, how many frames, and how long they last
 unfoldable pub times : ℕ → List ℕ → List ℕ
-times toc ns = line tocLabel toc ++ (line countLabel (length ns) ++ line timeLabel (time toc ns))
+times toc ns = line tocLabel toc ++ (line countLabel (length ns) ++ line timeLabel (time toc (length ns)))
 
 -- the first frame's place, the packet's bytes, and those of the compact packet
 unfoldable pub sizes : ℕ → ℕ → ℕ → List ℕ

@@ -1,9 +1,8 @@
 // The listing of an ordinary packet, put into a buffer as text.
 ghost use mathlib.Core.Path.{_≡_};
 ghost use mathlib.Core.List.{_++_};
-ghost use mathlib.Core.Bool.{false, cond};
+ghost use mathlib.Core.Bool.{false};
 ghost use Prim.Native.Nat.{_+_, _<_, _≤_};
-ghost use lib.Dec.{eqb};
 ghost use lib.IntN.{pos};
 ghost use lib.ListN.{length};
 ghost use lib.Seq.{sets};
@@ -13,7 +12,7 @@ ghost use Rattle.opus_format.specs.Frames.{total, longest};
 ghost use Rattle.opus_header.specs.Sums.{sumsOf};
 ghost use Rattle.opus_header.specs.Forms.{compactBytes};
 ghost use Rattle.show.specs.Text.{decimal};
-ghost use Rattle.listing_text.specs.Listing.{line, busy, time, frameLine, frameLines, times, sizes, packetText};
+ghost use Rattle.listing_text.specs.Listing.{line, frameLine, frameLines, times, sizes, packetText};
 ghost use Rattle.listing_text.specs.Listing.{listing as Listing·listing};
 use opus_defines::Verdict;
 
@@ -37,40 +36,10 @@ fn put_line(out: &mut [u8], at: usize, label: &[u8], n: usize) -> usize
     show::put_text(out, next, b"\n")
 }
 
-// ---- frames that hold bytes
-
-// An empty frame counts for nothing.
-fn counts(n: u16) -> usize
-    ensures { λ r. ⌜ r ≡ cond (eqb n 0) 0 1 ⌝ }
-{
-    if n == 0 { 0 } else { 1 }
-}
-
-fn busy_frames(ns: &[u16]) -> usize
-    ensures { λ r. ⌜ r ≡ busy (now (ns .entry)) ⌝ }
-{
-    let mut n: usize = 0;
-    let mut i: usize = 0;
-    while i < ns.len() {
-        n += counts(ns[i]);
-        i += 1;
-    }
-    n
-}
-
 fn wide(x: u16) -> usize
     ensures { λ r. ⌜ (r ≡ x) × (r < 65536) ⌝ }
 {
     x as usize
-}
-
-// Samples at 48 kHz.
-fn time_of(toc: u8, ns: &[u16]) -> usize
-    requires { ⌜ length (now ns) ≤ 48 ⌝ }
-    ensures { λ r. ⌜ r ≡ time toc (now (ns .entry)) ⌝ }
-{
-    let each = opus_toc::samples_48k(toc);
-    busy_frames(ns) * wide(each.0)
 }
 
 // ---- a packet that was read
@@ -81,10 +50,10 @@ fn put_times(out: &mut [u8], toc: u8, ns: &[u16]) -> usize
     ensures bytes { λ _. ⌜ now (out .exit) ≡ sets (now (out .entry)) 0 (times toc (now (ns .entry))) ⌝ }
     ensures next { λ r. ⌜ r ≡ length (times toc (now (ns .entry))) ⌝ }
 {
-    let time = time_of(toc, ns);
+    let time = opus_toc::time_48k(toc, ns.len() as u16);
     let mut at = put_line(out, 0, b"toc ", toc as usize);
     at = put_line(out, at, b"count ", ns.len());
-    put_line(out, at, b"time ", time)
+    put_line(out, at, b"time ", time as usize)
 }
 
 fn put_sizes(out: &mut [u8], at: usize, first: usize, taken: usize, small: usize) -> usize

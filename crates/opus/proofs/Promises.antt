@@ -6,15 +6,17 @@ use mathlib.Core.List.{List, _++_}
 use mathlib.Core.Bool.{Bool}
 use lib.IntN.{pos}
 use lib.ListN.{length, take, drop, take-append-drop}
+use lib.Seq.{length-take-le}
 use borrow.Author.Tests.{le-ltb}
 use Rattle.laws.specs.Bytes.{Bytes}
 use Rattle.opus_defines.specs.declared.Verdict.the-variants.{Accepted}
-use Rattle.opus_toc.specs.Toc.{upperSix}
+use Rattle.opus_toc.specs.Toc.{upperSix, time}
 use Rattle.opus_format.specs.Frames.{cut}
 use Rattle.opus_format.specs.Format.{Spells, Behind}
 use Rattle.opus_format.specs.Reading.{read}
 use Rattle.opus.specs.Answers.{parsed, packetNumber}
 use Rattle.opus_format.proofs.Complete.{spelled-read}
+use Rattle.opus_format.proofs.Facts.{facts}
 use Rattle.opus_format.proofs.Sound.{read-spelled}
 use Rattle.opus.proofs.Parsed.{lengthsOf, parsed-accepted}
 
@@ -48,6 +50,14 @@ module _ (sd : Bool) (p : List ℕ) (short : length p ≤ 65535) where
         front = sym (take-append-drop (r .taken) p);
         behind = w .behind;
       }
+
+-- What is accepted lasts at most 120 ms, which are 5760 samples at 48 kHz (R5); frames of no bytes take their time too.
+pub accepted-lasts : (sd : Bool) (p : List ℕ) → Bytes p → parsed sd p .verdict ≡ Accepted → time (parsed sd p .toc) (parsed sd p .count) ≤ 5760
+accepted-lasts sd p bytes v =
+    let r = parsed sd p in
+    let d = parsed-accepted sd p r refl v in
+    let count : length (lengthsOf r) ≡ r .count = length-take-le (r .count) (r .lengths) (d .inside) in
+    rw count at (facts sd p (r .toc) (lengthsOf r) (r .first) (r .taken) bytes (d .means) .short)
 
 -- the number that is returned is then the count, and else -1 or -4
 pub accepted-number : (sd : Bool) (p : List ℕ) → parsed sd p .verdict ≡ Accepted → packetNumber (parsed sd p) ≡ pos (parsed sd p .count)

@@ -12,7 +12,7 @@ use lib.Seq.{length-take-le}
 use borrow.Author.Tests.{leb-true, le-leb}
 use Rattle.laws.specs.Bytes.{Bytes}
 use Rattle.opus_size.specs.Size.{mostBytes}
-use Rattle.opus_toc.specs.Toc.{upperSix, configuration, duration, samples}
+use Rattle.opus_toc.specs.Toc.{upperSix, configuration, duration, time}
 use Rattle.opus_toc.proofs.Samples.{lasts-at}
 use Rattle.opus_format.specs.Frames.{lengths, joined, cut, total, longest}
 use Rattle.opus_format.specs.Format.{Lasts, Layout, code0, code1, code2, code3equal, code3unequal, Spells}
@@ -47,7 +47,8 @@ pub record Facts (m toc : ℕ) (ns : List ℕ) (first taken : ℕ) : Type 0 wher
   pub block : first + total ns ≤ taken
   pub within : taken ≤ m
   pub lasts : Lasts (upperSix toc) (length ns)
-  pub short : length ns * samples 48000 (configuration toc) ≤ 5760
+  -- R5, in samples at 48 kHz
+  pub short : time toc (length ns) ≤ 5760
 
 pub facts : (sd : Bool) (p : List ℕ) (toc : ℕ) (ns : List ℕ) (first taken : ℕ) → Bytes p → read sd p ≡ accepted toc ns first taken → Facts (length p) toc ns first taken
 facts sd p toc ns first taken bytes r =
@@ -58,7 +59,7 @@ facts sd p toc ns first taken bytes r =
     let l : Lasts (upperSix toc) (length ns) = rw (w .lengths-are) at (layout-lasts (q .layout)) in
     let sum : total ns ≡ length (joined frames) = sym (ap total (w .lengths-are)) ∙ total-lengths frames in
     let parts : taken ≡ length (q .head) + (length (joined frames) + length (q .padding)) = sym (length-take-le taken p (w .within)) ∙ (ap length (q .bytes) ∙ (length-append (q .head) (joined frames ++ q .padding) ∙ ap (λ (n : ℕ). length (q .head) + n) (length-append (joined frames) (q .padding)))) in
-    let time = lasts-at 48000 refl (length ns) (configuration toc) (omega arith) in
+    let limit = lasts-at 48000 refl (length ns) (configuration toc) (omega arith) in
     record {
       byte = byte;
       some = l .some;
@@ -68,5 +69,5 @@ facts sd p toc ns first taken bytes r =
       block = omega (arith, w .place);
       within = w .within;
       lasts = l;
-      short = leb-true (length ns * samples 48000 (configuration toc)) 5760 (time ∙ le-leb (length ns * duration (configuration toc)) 1200 (l .short));
+      short = leb-true (time toc (length ns)) 5760 (limit ∙ le-leb (length ns * duration (configuration toc)) 1200 (l .short));
     }

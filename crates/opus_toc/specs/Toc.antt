@@ -33,3 +33,7 @@ duration c =
 -- how many samples that is at a rate in Hz
 unfoldable pub samples : ℕ → ℕ → ℕ
 samples rate c = rate * duration c / 10000
+
+-- how long so many frames with this TOC byte last, in samples at 48 kHz; a frame of length 0 was not sent, and its time passes (3.2.1)
+abbrev pub time : ℕ → ℕ → ℕ
+time toc count = count * samples 48000 (configuration toc)

@@ -5,7 +5,7 @@ ghost use mathlib.Core.Path.{_≡_};
 ghost use Prim.Native.Nat.{_*_, _<_, _≤_};
 ghost use lib.Dec.{leb};
 ghost use Rattle.opus_defines.specs.Numbers.{numberOf};
-ghost use Rattle.opus_toc.specs.Toc.{configuration, samples};
+ghost use Rattle.opus_toc.specs.Toc.{configuration, samples, time};
 ghost use Rattle.opus_toc.specs.Answers.{divisorOf, samplesAt, samplesPerFrame, nbFrames};
 use opus_defines::Answer;
 use opus_defines::Count;
@@ -51,6 +51,14 @@ pub fn samples_8k(toc: u8) -> Samples8k
 {
     let at_48k = samples_48k(toc);
     Samples8k(at_48k.0 / 6)
+}
+
+// How long so many frames last, in samples at 48 kHz.
+pub fn time_48k(toc: u8, count: u16) -> u32
+    ensures { λ r. ⌜ r ≡ time toc count ⌝ }
+{
+    let each = samples_48k(toc);
+    (count as u32) * (each.0 as u32)
 }
 
 impl Samples48k {

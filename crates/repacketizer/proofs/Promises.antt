@@ -1,6 +1,7 @@
 -- What a buyer may count on when packets are added (demand 3, and document 01's refusals).
 -- Assumes nothing.
 use Prim.Native.Nat.{ℕ, _*_, _≤_, _<_}
+use native.Mathlib.Nat.{zero-add}
 use mathlib.Core.Path.{_≡_, refl, sym, _∙_}
 use mathlib.Core.List.{List}
 use mathlib.Core.Bool.{Bool}
@@ -11,7 +12,7 @@ use Rattle.laws.proofs.Never.{never}
 use Rattle.opus_defines.specs.Numbers.{verdictNumber}
 use Rattle.opus_defines.specs.declared.Verdict.{Verdict}
 use Rattle.opus_defines.specs.declared.Verdict.the-variants.{Accepted, Refused}
-use Rattle.opus_toc.specs.Toc.{samples}
+use Rattle.opus_toc.specs.Toc.{samples, time}
 use Rattle.opus_toc.proofs.Samples.{lasts-at}
 use Rattle.opus_format.specs.Reading.{accepted, read}
 use Rattle.repacketizer.specs.declared.OpusRepacketizer.{OpusRepacketizer}
@@ -36,6 +37,10 @@ collector-stays-sound sd store ps h b = runs-ready sd (start store) ps (empty-re
 -- 2. An empty collector takes any packet that the reader accepts.
 pub empty-takes-all : (sd : Bool) (rp : OpusRepacketizer) (store p : List ℕ) (toc : ℕ) (ns : List ℕ) (first taken : ℕ) → rp .«nb_frames» ≡ 0 → leastStore ≤ length store → length p ≤ 65535 → read sd p ≡ accepted toc ns first taken → added sd rp p store .answer .verdict ≡ Accepted
 empty-takes-all sd rp store p toc ns first taken e h k r = rw (add-empty sd rp p store toc ns first taken e h k r)
+
+-- and then holds frames that last as long as the packet,
+pub empty-holds-its-time : (sd : Bool) (rp : OpusRepacketizer) (store p : List ℕ) (toc : ℕ) (ns : List ℕ) (first taken : ℕ) → rp .«nb_frames» ≡ 0 → leastStore ≤ length store → length p ≤ 65535 → read sd p ≡ accepted toc ns first taken → let a = added sd rp p store .answer .rp in time (a .toc) (a .«nb_frames») ≡ time toc (length ns)
+empty-holds-its-time sd rp store p toc ns first taken e h k r = rw (add-empty sd rp p store toc ns first taken e h k r, e, zero-add)
 
 -- since 960 samples at 8 kHz and 5760 at 48 kHz are the same time, whatever the configuration
 pub limits-agree : (count c : ℕ) → c < 32 → leb (count * samples 8000 c) 960 ≡ leb (count * samples 48000 c) 5760

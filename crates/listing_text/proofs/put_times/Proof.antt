@@ -15,7 +15,7 @@ put-line-requires c κs =
     let t = c .before .before in
     let s = t .before .before .before in
     let a = s .args in
-    first-room (times-parts (a .out .now) (a .toc) (a .ns .now) (t .time-of .ensures) (s .pre .1))
+    first-room (times-parts (a .out .now) (a .toc) (a .ns .now) (t .time-48k .ensures) (s .pre .1))
 
 -- what stands behind the first line, and behind the second
 one : (c : tie.After-put-line) → let a = c .before .before .before .before .before .before .args in Laid (a .out .now) 0 (line tocLabel (a .toc)) (c .put-line .last .0) (c .put-line .result)
@@ -33,7 +33,7 @@ put-line-requires-2 c κs =
     let t = p .before .before .before in
     let s = t .before .before .before in
     let a = s .args in
-    second-room (times-parts (a .out .now) (a .toc) (a .ns .now) (t .time-of .ensures) (s .pre .1)) (one p)
+    second-room (times-parts (a .out .now) (a .toc) (a .ns .now) (t .time-48k .ensures) (s .pre .1)) (one p)
 
 put-line-requires-3 : tie.Need-put-line-requires-3
 unfolding tocLabel countLabel timeLabel
@@ -43,7 +43,7 @@ put-line-requires-3 c κs =
     let t = p .before .before .before in
     let s = t .before .before .before in
     let a = s .args in
-    third-room (times-parts (a .out .now) (a .toc) (a .ns .now) (t .time-of .ensures) (s .pre .1)) (one p) (two q)
+    third-room (times-parts (a .out .now) (a .toc) (a .ns .now) (t .time-48k .ensures) (s .pre .1)) (one p) (two q)
 
 returns : tie.Need-returns
 unfolding tocLabel countLabel timeLabel
@@ -54,17 +54,19 @@ returns c =
     let t = p .before .before .before in
     let s = t .before .before .before in
     let a = s .args in
-    front-ends (three-laid (times-parts (a .out .now) (a .toc) (a .ns .now) (t .time-of .ensures) (s .pre .1)) (one p) (two q) (record { bytes = r .ensures .0; place = r .ensures .1 }))
+    front-ends (three-laid (times-parts (a .out .now) (a .toc) (a .ns .now) (t .time-48k .ensures) (s .pre .1)) (one p) (two q) (record { bytes = r .ensures .0; place = r .ensures .1 }))
 
 pub put-times-spec : {M : Type 1} → statement M
 put-times-spec =
     tie.close
     (tie.spec
+    (λ c. search needs)
     (λ c κs. search needs)
     (λ c. search needs)
     put-line-requires
     (λ c. search needs)
     put-line-requires-2
+    (λ c. search needs)
     (λ c. search needs)
     put-line-requires-3
     (λ c. search needs)
