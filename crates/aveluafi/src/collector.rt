@@ -1,11 +1,12 @@
-// The collector, lent to each call and updated there, as in the crate; exported. Each call takes it by reference, hands it to the
-// by-value core, and is proved by a walk of its code by hand (proofs/Lent.antt has what the walks share).
+// The collector, lent to each call and updated there, as in the crate; exported. Each call takes it by reference, reads its head, lends its
+// lengths on to the core, and is proved by a walk of its code by hand (proofs/Lent.antt and Heads.antt have what the walks share).
 ghost use mathlib.Core.Path.{_≡_};
 ghost use mathlib.Core.Bool.{false};
 ghost use Rattle.opus_defines.specs.Numbers.{numberOf};
 ghost use Rattle.repacketizer.specs.Collector.{empty, nbFramesHeld};
 ghost use Rattle.repacketizer.specs.Adding.{addedNumber, added};
 ghost use Rattle.repacketizer_out.specs.Output.{outRange, outAll};
+use repacketizer::Head;
 use repacketizer::OpusRepacketizer;
 
 // A reset: any collector, sound or not, becomes empty.
@@ -13,7 +14,10 @@ use repacketizer::OpusRepacketizer;
 pub extern "C" fn aveluafi_repacketizer_init(rp: &mut OpusRepacketizer)
     ensures { λ _. ⌜ now (rp .exit) ≡ empty ⌝ }
 {
-    *rp = repacketizer::opus_repacketizer_init();
+    rp.toc = 0;
+    rp.nb_frames = 0;
+    rp.framesize = opus_toc::Samples8k(0);
+    rp.len = [0u16; 48];
 }
 
 // Adds an ordinary packet, and answers 0.
@@ -27,9 +31,16 @@ pub extern "C" fn aveluafi_repacketizer_cat(
         × (now (rp .exit) ≡ added false (now (rp .entry)) (now («data» .entry)) (now (store .entry)) .answer .rp)
         × (now (store .exit) ≡ added false (now (rp .entry)) (now («data» .entry)) (now (store .entry)) .store) ⌝ }
 {
-    let a = collector_add::cat(*rp, data, store);
-    *rp = a.rp;
-    a.number
+    let h = Head {
+        toc: rp.toc,
+        nb_frames: rp.nb_frames,
+        framesize: rp.framesize,
+    };
+    let a = repacketizer::add(h, &mut rp.len, data, false, store);
+    rp.toc = a.toc;
+    rp.nb_frames = a.count as u16;
+    rp.framesize = a.framesize;
+    opus_defines::verdict_number(0, a.verdict)
 }
 
 // The frames held.
@@ -37,7 +48,12 @@ pub extern "C" fn aveluafi_repacketizer_cat(
 pub extern "C" fn aveluafi_repacketizer_get_nb_frames(rp: &OpusRepacketizer) -> i32
     ensures { λ r. ⌜ r ≡ numberOf (nbFramesHeld (now (rp .entry))) ⌝ }
 {
-    repacketizer::opus_repacketizer_get_nb_frames(*rp)
+    let h = Head {
+        toc: rp.toc,
+        nb_frames: rp.nb_frames,
+        framesize: rp.framesize,
+    };
+    repacketizer::nb_frames(h, &rp.len)
 }
 
 // Writes the frames begin..end as one packet in the named delimiting, which fills `data` where padding is asked for, and answers its bytes.
@@ -54,15 +70,12 @@ pub extern "C" fn aveluafi_repacketizer_out_range_impl(
     ensures { λ r. ⌜ (r ≡ outRange «self_delimited» pad (now (rp .entry)) (now (store .entry)) begin end (now («data» .entry)) .number)
         × (now («data» .exit) ≡ outRange «self_delimited» pad (now (rp .entry)) (now (store .entry)) begin end (now («data» .entry)) .bytes) ⌝ }
 {
-    repacketizer_out::opus_repacketizer_out_range_impl(
-        *rp,
-        store,
-        begin,
-        end,
-        data,
-        self_delimited,
-        pad,
-    )
+    let h = Head {
+        toc: rp.toc,
+        nb_frames: rp.nb_frames,
+        framesize: rp.framesize,
+    };
+    repacketizer_out::out_lent(h, &rp.len, store, begin, end, data, self_delimited, pad)
 }
 
 // The same, ordinary and without padding.
@@ -77,7 +90,7 @@ pub extern "C" fn aveluafi_repacketizer_out_range(
     ensures { λ r. ⌜ (r ≡ outRange false false (now (rp .entry)) (now (store .entry)) begin end (now («data» .entry)) .number)
         × (now («data» .exit) ≡ outRange false false (now (rp .entry)) (now (store .entry)) begin end (now («data» .entry)) .bytes) ⌝ }
 {
-    repacketizer_out::opus_repacketizer_out_range(*rp, store, begin, end, data)
+    aveluafi_repacketizer_out_range_impl(rp, store, begin, end, data, false, false)
 }
 
 // All frames held.
@@ -90,5 +103,5 @@ pub extern "C" fn aveluafi_repacketizer_out(
     ensures { λ r. ⌜ (r ≡ outAll (now (rp .entry)) (now (store .entry)) (now («data» .entry)) .number)
         × (now («data» .exit) ≡ outAll (now (rp .entry)) (now (store .entry)) (now («data» .entry)) .bytes) ⌝ }
 {
-    repacketizer_out::opus_repacketizer_out(*rp, store, data)
+    aveluafi_repacketizer_out_range_impl(rp, store, 0, rp.nb_frames as i32, data, false, false)
 }

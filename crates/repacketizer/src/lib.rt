@@ -1,4 +1,4 @@
-// The collector by value, and adding packets to it (repacketizer.rs).
+// The collector, and adding packets to it (repacketizer.rs): by value, and as a head with its lengths lent.
 ghost use mathlib.Core.Path.{_≡_};
 ghost use mathlib.Core.List.{[]};
 ghost use mathlib.Core.Bool.{true, false};
@@ -155,19 +155,28 @@ pub fn is_sound(rp: OpusRepacketizer) -> bool
 }
 
 // The frames held.
-fn nb_frames_held(rp: OpusRepacketizer) -> Answer
-    ensures { λ r. ⌜ r ≡ nbFramesHeld rp ⌝ }
+fn nb_frames_held(h: Head, len: &[u16; 48]) -> Answer
+    ensures { λ r. ⌜ r ≡ nbFramesHeld (collectorOf h (now (len .entry))) ⌝ }
 {
-    if !is_sound(rp) {
+    let c = check(h, len);
+    if !c.sound {
         return Answer::Refused(Refusal::InvalidState);
     }
-    Answer::Number(rp.nb_frames)
+    Answer::Number(h.nb_frames)
+}
+
+// The same as a number.
+pub fn nb_frames(h: Head, len: &[u16; 48]) -> i32
+    ensures { λ r. ⌜ r ≡ numberOf (nbFramesHeld (collectorOf h (now (len .entry)))) ⌝ }
+{
+    opus_defines::number_of(nb_frames_held(h, len))
 }
 
 pub fn opus_repacketizer_get_nb_frames(rp: OpusRepacketizer) -> i32
     ensures { λ r. ⌜ r ≡ numberOf (nbFramesHeld rp) ⌝ }
 {
-    opus_defines::number_of(nb_frames_held(rp))
+    let len = rp.len;
+    nb_frames(head_of(rp), &len)
 }
 
 // Whether n frames with this TOC byte go with those held, whatever the lengths.
@@ -254,10 +263,13 @@ fn add_block(
     first: usize,
     store: &mut [u8],
 ) -> AddedHead
-    requires collector { ⌜ (length (now len) ≡ 48) × (sound (collectorOf h (now len)) ≡ true) × (at ≡ total (heldLengths (collectorOf h (now len)))) × (leastStore ≤ length (now store)) ⌝ }
+    requires collector { ⌜ (length (now len) ≡ 48) × (sound (collectorOf h (now len)) ≡ true)
+        × (at ≡ total (heldLengths (collectorOf h (now len)))) × (leastStore ≤ length (now store)) ⌝ }
     requires frames { ⌜ (1 ≤ length (now ns)) × (length (now ns) ≤ 48) × (longest (now ns) ≤ mostBytes) × (first + total (now ns) ≤ length (now «data»)) ⌝ }
-    ensures answer { λ r. ⌜ addedOf r (now (len .exit)) ≡ addBlock (collectorOf h (now (len .entry))) toc (now (ns .entry)) (now («data» .entry)) first (now (store .entry)) .answer ⌝ }
-    ensures bytes { λ _. ⌜ now (store .exit) ≡ addBlock (collectorOf h (now (len .entry))) toc (now (ns .entry)) (now («data» .entry)) first (now (store .entry)) .store ⌝ }
+    ensures answer { λ r. ⌜ addedOf r (now (len .exit))
+        ≡ addBlock (collectorOf h (now (len .entry))) toc (now (ns .entry)) (now («data» .entry)) first (now (store .entry)) .answer ⌝ }
+    ensures bytes { λ _. ⌜ now (store .exit)
+        ≡ addBlock (collectorOf h (now (len .entry))) toc (now (ns .entry)) (now («data» .entry)) first (now (store .entry)) .store ⌝ }
     ensures few { λ r. ⌜ r .count < 65536 ⌝ }
 {
     if !goes_with(h, toc, ns.len() as u16) {
@@ -278,9 +290,12 @@ fn add_packet(
     self_delimited: bool,
     store: &mut [u8],
 ) -> AddedHead
-    requires { ⌜ (length (now len) ≡ 48) × (sound (collectorOf h (now len)) ≡ true) × (at ≡ total (heldLengths (collectorOf h (now len)))) × (leastStore ≤ length (now store)) ⌝ }
-    ensures answer { λ r. ⌜ addedOf r (now (len .exit)) ≡ addPacket «self_delimited» (collectorOf h (now (len .entry))) (now («data» .entry)) (now (store .entry)) .answer ⌝ }
-    ensures bytes { λ _. ⌜ now (store .exit) ≡ addPacket «self_delimited» (collectorOf h (now (len .entry))) (now («data» .entry)) (now (store .entry)) .store ⌝ }
+    requires { ⌜ (length (now len) ≡ 48) × (sound (collectorOf h (now len)) ≡ true) × (at ≡ total (heldLengths (collectorOf h (now len))))
+        × (leastStore ≤ length (now store)) ⌝ }
+    ensures answer { λ r. ⌜ addedOf r (now (len .exit))
+        ≡ addPacket «self_delimited» (collectorOf h (now (len .entry))) (now («data» .entry)) (now (store .entry)) .answer ⌝ }
+    ensures bytes { λ _. ⌜ now (store .exit)
+        ≡ addPacket «self_delimited» (collectorOf h (now (len .entry))) (now («data» .entry)) (now (store .entry)) .store ⌝ }
     ensures few { λ r. ⌜ r .count < 65536 ⌝ }
 {
     if opus::MOST_PACKET < data.len() {
@@ -300,13 +315,13 @@ fn add_packet(
 // Adds a packet in the named delimiting to the collector with this head and these lengths.
 pub fn add(
     h: Head,
-    len: &mut [u16],
+    len: &mut [u16; 48],
     data: &[u8],
     self_delimited: bool,
     store: &mut [u8],
 ) -> AddedHead
-    requires { ⌜ length (now len) ≡ 48 ⌝ }
-    ensures answer { λ r. ⌜ addedOf r (now (len .exit)) ≡ added «self_delimited» (collectorOf h (now (len .entry))) (now («data» .entry)) (now (store .entry)) .answer ⌝ }
+    ensures answer { λ r. ⌜ addedOf r (now (len .exit))
+        ≡ added «self_delimited» (collectorOf h (now (len .entry))) (now («data» .entry)) (now (store .entry)) .answer ⌝ }
     ensures bytes { λ _. ⌜ now (store .exit) ≡ added «self_delimited» (collectorOf h (now (len .entry))) (now («data» .entry)) (now (store .entry)) .store ⌝ }
     ensures few { λ r. ⌜ r .count < 65536 ⌝ }
 {

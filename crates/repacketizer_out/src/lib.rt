@@ -38,7 +38,9 @@ fn put_packet(
     requires some { ⌜ (1 ≤ length (now ns)) × (length (now ns) ≤ 48) × (longest (now ns) ≤ mostBytes) ⌝ }
     requires block { ⌜ from + total (now ns) ≤ length (now store) ⌝ }
     requires room { ⌜ length (headerOf «self_delimited» (upperSix toc) (now ns) form) + total (now ns) ≤ length (now «data») ⌝ }
-    ensures bytes { λ _. ⌜ now («data» .exit) ≡ sets (now («data» .entry)) 0 (headerOf «self_delimited» (upperSix toc) (now (ns .entry)) form ++ part (now (store .entry)) from (total (now (ns .entry)))) ⌝ }
+    ensures bytes { λ _. ⌜ now («data» .exit)
+        ≡ sets (now («data» .entry)) 0
+        (headerOf «self_delimited» (upperSix toc) (now (ns .entry)) form ++ part (now (store .entry)) from (total (now (ns .entry)))) ⌝ }
     ensures next { λ r. ⌜ r ≡ length (headerOf «self_delimited» (upperSix toc) (now (ns .entry)) form) + total (now (ns .entry)) ⌝ }
 {
     let total = m.total;
@@ -59,8 +61,10 @@ fn put_frames(
 ) -> Answer
     requires some { ⌜ (1 ≤ length (now ns)) × (length (now ns) ≤ 48) × (longest (now ns) ≤ mostBytes) ⌝ }
     requires block { ⌜ (from + total (now ns) ≤ length (now store)) × (length (now «data») ≤ 65535) ⌝ }
-    ensures number { λ r. ⌜ numberOf r ≡ output «self_delimited» pad (upperSix toc) (cut (now (ns .entry)) (drop from (now (store .entry)))) (now («data» .entry)) .number ⌝ }
-    ensures bytes { λ _. ⌜ now («data» .exit) ≡ output «self_delimited» pad (upperSix toc) (cut (now (ns .entry)) (drop from (now (store .entry)))) (now («data» .entry)) .bytes ⌝ }
+    ensures number { λ r. ⌜ numberOf r
+        ≡ output «self_delimited» pad (upperSix toc) (cut (now (ns .entry)) (drop from (now (store .entry)))) (now («data» .entry)) .number ⌝ }
+    ensures bytes { λ _. ⌜ now («data» .exit)
+        ≡ output «self_delimited» pad (upperSix toc) (cut (now (ns .entry)) (drop from (now (store .entry)))) (now («data» .entry)) .bytes ⌝ }
 {
     let m = opus_header::sums_of(ns);
     let need = opus_header::compact_bytes(ns.len(), m, self_delimited);
@@ -90,8 +94,12 @@ fn out_frames(
 ) -> Answer
     requires collector { ⌜ (length (now len) ≡ 48) × (sound (collectorOf h (now len)) ≡ true) ⌝ }
     requires buffers { ⌜ (leastStore ≤ length (now store)) × (length (now «data») ≤ 65535) ⌝ }
-    ensures number { λ r. ⌜ numberOf r ≡ outFrames «self_delimited» pad (upperSix (h .toc)) (held (collectorOf h (now (len .entry))) (now (store .entry))) (pos begin) (pos end) (now («data» .entry)) .number ⌝ }
-    ensures bytes { λ _. ⌜ now («data» .exit) ≡ outFrames «self_delimited» pad (upperSix (h .toc)) (held (collectorOf h (now (len .entry))) (now (store .entry))) (pos begin) (pos end) (now («data» .entry)) .bytes ⌝ }
+    ensures number { λ r. ⌜ numberOf r
+        ≡ outFrames «self_delimited» pad (upperSix (h .toc)) (held (collectorOf h (now (len .entry))) (now (store .entry))) (pos begin) (pos end)
+        (now («data» .entry)) .number ⌝ }
+    ensures bytes { λ _. ⌜ now («data» .exit)
+        ≡ outFrames «self_delimited» pad (upperSix (h .toc)) (held (collectorOf h (now (len .entry))) (now (store .entry))) (pos begin) (pos end)
+        (now («data» .entry)) .bytes ⌝ }
 {
     let n = wide(h.nb_frames);
     if end <= begin {
@@ -120,7 +128,8 @@ fn wide(x: u16) -> usize
 
 // The same with range ends that may be anything, on a collector and a store that may be.
 fn out_answer(
-    rp: OpusRepacketizer,
+    h: Head,
+    len: &[u16; 48],
     store: &[u8],
     begin: i32,
     end: i32,
@@ -128,12 +137,12 @@ fn out_answer(
     self_delimited: bool,
     pad: bool,
 ) -> Answer
-    ensures number { λ r. ⌜ numberOf r ≡ outRange «self_delimited» pad rp (now (store .entry)) begin end (now («data» .entry)) .number ⌝ }
-    ensures bytes { λ _. ⌜ now («data» .exit) ≡ outRange «self_delimited» pad rp (now (store .entry)) begin end (now («data» .entry)) .bytes ⌝ }
+    ensures number { λ r. ⌜ numberOf r
+        ≡ outRange «self_delimited» pad (collectorOf h (now (len .entry))) (now (store .entry)) begin end (now («data» .entry)) .number ⌝ }
+    ensures bytes { λ _. ⌜ now («data» .exit)
+        ≡ outRange «self_delimited» pad (collectorOf h (now (len .entry))) (now (store .entry)) begin end (now («data» .entry)) .bytes ⌝ }
 {
-    let h = repacketizer::head_of(rp);
-    let len = rp.len;
-    let c = repacketizer::check(h, &len);
+    let c = repacketizer::check(h, len);
     if !c.sound {
         return Answer::Refused(Refusal::InvalidState);
     }
@@ -149,7 +158,26 @@ fn out_answer(
     let Count::Is(e) = opus_defines::count_of(end) else {
         return Answer::Refused(Refusal::BadArg);
     };
-    out_frames(h, &len, store, b, e, data, self_delimited, pad)
+    out_frames(h, len, store, b, e, data, self_delimited, pad)
+}
+
+// The same as a number.
+pub fn out_lent(
+    h: Head,
+    len: &[u16; 48],
+    store: &[u8],
+    begin: i32,
+    end: i32,
+    data: &mut [u8],
+    self_delimited: bool,
+    pad: bool,
+) -> i32
+    ensures number { λ r. ⌜ r
+        ≡ outRange «self_delimited» pad (collectorOf h (now (len .entry))) (now (store .entry)) begin end (now («data» .entry)) .number ⌝ }
+    ensures bytes { λ _. ⌜ now («data» .exit)
+        ≡ outRange «self_delimited» pad (collectorOf h (now (len .entry))) (now (store .entry)) begin end (now («data» .entry)) .bytes ⌝ }
+{
+    opus_defines::number_of(out_answer(h, len, store, begin, end, data, self_delimited, pad))
 }
 
 // Writes the frames begin..end as one packet in the named delimiting, which fills `data` where padding is asked for, and answers its bytes.
@@ -165,7 +193,9 @@ pub fn opus_repacketizer_out_range_impl(
     ensures number { λ r. ⌜ r ≡ outRange «self_delimited» pad rp (now (store .entry)) begin end (now («data» .entry)) .number ⌝ }
     ensures bytes { λ _. ⌜ now («data» .exit) ≡ outRange «self_delimited» pad rp (now (store .entry)) begin end (now («data» .entry)) .bytes ⌝ }
 {
-    opus_defines::number_of(out_answer(rp, store, begin, end, data, self_delimited, pad))
+    let h = repacketizer::head_of(rp);
+    let len = rp.len;
+    out_lent(h, &len, store, begin, end, data, self_delimited, pad)
 }
 
 // The same, ordinary and without padding.

@@ -2,6 +2,7 @@
 -- Assumes nothing.
 use mathlib.Core.Path.{_≡_, sym, _∙_}
 use mathlib.Core.Bool.{true}
+use lib.ListN.{length}
 use borrow.Author.Needs.{needs}
 use borrow.Author.Tests.{not-true, not-false}
 use Rattle.repacketizer.specs.Collector.{sound}
@@ -21,7 +22,8 @@ returns : tie.Need-returns
 returns c =
     let k = c .before .before .before in
     let a = k .before .before .before .before .before .args in
-    refused-as (add-unsound (a .self-delimited) (collectorOf (a .h) (a .len .now)) (a .«data» .now) (a .store .now) (sym (found k) ∙ not-true _ (c .before .if1 .taken))) (c .refused-add .ensures)
+    let unsound = sym (found k) ∙ not-true _ (c .before .if1 .taken) in
+    refused-as (add-unsound (a .self-delimited) (collectorOf (a .h) (a .len .now)) (a .«data» .now) (a .store .now) unsound) (c .refused-add .ensures)
 
 -- the collector is sound
 is : (c : tie.Else1) → let a = c .before .before .before .before .before .before .before .args in sound (collectorOf (a .h) (a .len .now)) ≡ true
@@ -31,7 +33,8 @@ returns-2 : tie.Need-returns-2
 returns-2 c =
     let i = c .before .before in
     let a = i .before .before .before .before .before .before .before .args in
-    refused-as (add-tight (a .self-delimited) (collectorOf (a .h) (a .len .now)) (a .«data» .now) (a .store .now) (is i) (c .before .if2 .taken)) (c .refused-add2 .ensures)
+    let rp = collectorOf (a .h) (a .len .now) in
+    refused-as (add-tight (a .self-delimited) rp (a .«data» .now) (a .store .now) (is i) (c .before .if2 .taken)) (c .refused-add2 .ensures)
 
 add-packet-requires : tie.Need-add-packet-requires
 add-packet-requires c κs =
@@ -39,11 +42,12 @@ add-packet-requires c κs =
     let i = t .before in
     let k = i .before .before in
     let s = k .before .before .before .before .before in
-    (s .pre, is i, checked-total (collectorOf (s .args .h) (s .args .len .now)) (k .check .result) (k .check .ensures) (is i), t .if2 .left)
+    let l : length (s .args .len .now) ≡ 48 = search needs in
+    (l, is i, checked-total (collectorOf (s .args .h) (s .args .len .now)) (k .check .result) (k .check .ensures) (is i), t .if2 .left)
 
 returns-3 : tie.Need-returns-3
 returns-3 c =
-    let p = c .before .before .before .before in
+    let p = c .before .before in
     let t = p .before .before .before in
     let i = t .before in
     let a = i .before .before .before .before .before .before .before .args in
@@ -55,12 +59,9 @@ add-spec =
     (tie.spec
     (λ c κs. search needs)
     (λ c κs. search needs)
-    (λ c. search needs)
     returns
     (λ c κs. search needs)
-    (λ c. search needs)
     returns-2
     add-packet-requires
-    (λ c. search needs)
     (λ c. search needs)
     returns-3)

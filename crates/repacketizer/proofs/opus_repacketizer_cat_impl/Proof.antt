@@ -7,7 +7,7 @@ use Rattle.repacketizer.proofs.opus_repacketizer_cat_impl.Tie as tie
 
 returns : tie.Need-returns
 returns c =
-    let b = c .before .before .before .before .before in
+    let b = c .before .before .before .before in
     let h = b .before .before .before in
     let rp = h .before .before .before .before .args .rp in
     let e = rw (headed rp (h .head-of .result) (h .head-of .ensures)) at (b .add .ensures) in
@@ -18,7 +18,6 @@ opus-repacketizer-cat-impl-spec =
     tie.close
     (tie.spec
     (λ c κs. search needs)
-    (λ c. search needs)
     (λ c κs. search needs)
     (λ c. search needs)
     (λ c. search needs)

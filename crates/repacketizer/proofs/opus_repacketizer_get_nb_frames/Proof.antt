@@ -1,17 +1,18 @@
--- `repacketizer::opus_repacketizer_get_nb_frames` meets its contract: it is the number of what `nb_frames_held` answers.
+-- `repacketizer::opus_repacketizer_get_nb_frames` meets its contract: the collector is taken apart.
 -- Assumes nothing.
-use mathlib.Core.Path.{_≡_, ap, _∙_}
+use mathlib.Core.Path.{_≡_, _∙_}
 use borrow.Author.Needs.{needs}
 use mir.Syntax.{w32}
 use mir.Val.{toZ, ofZ}
-use Rattle.opus_defines.specs.Numbers.{numberOf}
+use Rattle.repacketizer.proofs.Checks.{headed}
 use Rattle.repacketizer.proofs.opus_repacketizer_get_nb_frames.Statement.{statement}
 use Rattle.repacketizer.proofs.opus_repacketizer_get_nb_frames.Tie as tie
 
 returns : tie.Need-returns
 returns c =
-    let back : toZ w32 (ofZ w32 (c .number-of .result)) ≡ c .number-of .result = search needs in
-    back ∙ (c .number-of .ensures ∙ ap numberOf (c .before .nb-frames-held .ensures))
+    let h = c .before .before in
+    let back : toZ w32 (ofZ w32 (c .nb-frames .result)) ≡ c .nb-frames .result = search needs in
+    back ∙ (rw (headed (h .before .before .args .rp) (h .head-of .result) (h .head-of .ensures)) at (c .nb-frames .ensures))
 
 pub opus-repacketizer-get-nb-frames-spec : {M : Type 1} → statement M
 opus-repacketizer-get-nb-frames-spec = tie.close (tie.spec (λ c κs. search needs) (λ c κs. search needs) returns)

@@ -1,20 +1,24 @@
--- `repacketizer_out::opus_repacketizer_out_range_impl` meets its contract: it is the number of what `out_answer` answers.
+-- `repacketizer_out::opus_repacketizer_out_range_impl` meets its contract: the collector is taken apart.
 -- Assumes nothing.
 use mathlib.Core.Path.{_≡_, _∙_}
 use borrow.Author.Needs.{needs}
 use mir.Syntax.{w32}
 use mir.Val.{toZ, ofZ}
+use Rattle.repacketizer.proofs.Checks.{headed}
 use Rattle.repacketizer_out.proofs.Outputs.{answered, out-passed}
 use Rattle.repacketizer_out.proofs.opus_repacketizer_out_range_impl.Statement.{statement}
 use Rattle.repacketizer_out.proofs.opus_repacketizer_out_range_impl.Tie as tie
 
 returns : tie.Need-returns
 returns c =
-    let s = c .before .before .before .before .before .before .before in
+    let r = c .before .before .out-lent in
+    let h = c .before .before .before .before .before .before in
+    let s = h .before .before .before in
     let a = s .args in
-    let back : toZ w32 (ofZ w32 (c .number-of .result)) ≡ c .number-of .result = search needs in
-    let o = answered (out-passed (a .self-delimited) (a .pad) (a .rp) (a .store .now) (a .begin) (a .end) (a .«data» .now) (s .fits .begin) (s .fits .end)) (c .before .before .before .out-answer .ensures) in
-    (back ∙ (c .number-of .ensures ∙ o .0), o .1)
+    let back : toZ w32 (ofZ w32 (r .result)) ≡ r .result = search needs in
+    let passed = out-passed (a .self-delimited) (a .pad) (a .rp) (a .store .now) (a .begin) (a .end) (a .«data» .now) (s .fits .begin) (s .fits .end) in
+    let o = answered passed (rw (headed (a .rp) (h .head-of .result) (h .head-of .ensures)) at (r .ensures)) in
+    (back ∙ o .0, o .1)
 
 pub opus-repacketizer-out-range-impl-spec : {M : Type 1} → statement M
 opus-repacketizer-out-range-impl-spec =

@@ -1,6 +1,6 @@
 -- `repacketizer_out::out_answer` meets its contract: by the tests of the code.
 -- Assumes nothing.
-use mathlib.Core.Path.{_≡_, ap, sym, _∙_}
+use mathlib.Core.Path.{_≡_, sym, _∙_}
 use mathlib.Core.Bool.{true}
 use borrow.Author.Needs.{needs}
 use borrow.Author.Tests.{not-true, not-false}
@@ -11,18 +11,16 @@ use Rattle.opus_toc.specs.Toc.{upperSix}
 use Rattle.repacketizer.specs.declared.OpusRepacketizer.{OpusRepacketizer}
 use Rattle.repacketizer.specs.Collector.{held, sound}
 use Rattle.repacketizer.specs.Parts.{collectorOf}
-use Rattle.repacketizer.proofs.Checks.{headed, checked-sound}
+use Rattle.repacketizer.proofs.Checks.{checked-sound}
 use Rattle.repacketizer_out.specs.Output.{outFrames, outRange}
-use Rattle.repacketizer_out.proofs.Outputs.{answered, refused-as, out-unsound, out-tight, out-long, out-sound, frames-before, frames-under, frames-natural}
+use Rattle.repacketizer_out.proofs.Outputs.{answered, refused-as, out-unsound, out-tight}
+use Rattle.repacketizer_out.proofs.Outputs.{out-long, out-sound, frames-before, frames-under, frames-natural}
 use Rattle.repacketizer_out.proofs.out_answer.Statement.{statement}
 use Rattle.repacketizer_out.proofs.out_answer.Tie as tie
 
--- the collector as the code took it apart
+-- the collector of which the code has the head and the lengths
 abbrev taken : (c : tie.After-check) → OpusRepacketizer
-taken c = collectorOf (c .before .before .before .head-of .result) (c .before .before .before .before .before .before .args .rp .len)
-
-same : (c : tie.After-check) → taken c ≡ c .before .before .before .before .before .before .args .rp
-same c = headed (c .before .before .before .before .before .before .args .rp) (c .before .before .before .head-of .result) (c .before .before .before .head-of .ensures)
+taken c = collectorOf (c .before .before .before .before .args .h) (c .before .before .before .before .args .len .now)
 
 found : (c : tie.After-check) → c .check .result .sound ≡ sound (taken c)
 found c = checked-sound (taken c) (c .check .result) (c .check .ensures)
@@ -30,63 +28,71 @@ found c = checked-sound (taken c) (c .check .result) (c .check .ensures)
 returns : tie.Need-returns
 returns c =
     let k = c .before .before in
-    let a = k .before .before .before .before .before .before .args in
-    refused-as InvalidState (out-unsound (a .self-delimited) (a .pad) (a .rp) (a .store .now) (a .begin) (a .end) (a .«data» .now) (ap sound (sym (same k)) ∙ (sym (found k) ∙ not-true _ (c .if1 .taken))))
+    let a = k .before .before .before .before .args in
+    let unsound = sym (found k) ∙ not-true _ (c .if1 .taken) in
+    refused-as InvalidState (out-unsound (a .self-delimited) (a .pad) (taken k) (a .store .now) (a .begin) (a .end) (a .«data» .now) unsound)
 
 -- the collector is sound
 is : (c : tie.Else1) → sound (taken (c .before .before)) ≡ true
 is c = sym (found (c .before .before)) ∙ not-false _ (c .if1 .left)
 
-still : (c : tie.Else1) → sound (c .before .before .before .before .before .before .before .before .args .rp) ≡ true
-still c = ap sound (sym (same (c .before .before))) ∙ is c
-
 returns-2 : tie.Need-returns-2
 returns-2 c =
     let i = c .before in
-    let a = i .before .before .before .before .before .before .before .before .args in
-    refused-as BadArg (out-tight (a .self-delimited) (a .pad) (a .rp) (a .store .now) (a .begin) (a .end) (a .«data» .now) (still i) (c .if2 .taken))
+    let a = i .before .before .before .before .before .before .args in
+    let r = taken (i .before .before) in
+    refused-as BadArg (out-tight (a .self-delimited) (a .pad) r (a .store .now) (a .begin) (a .end) (a .«data» .now) (is i) (c .if2 .taken))
 
 returns-3 : tie.Need-returns-3
 returns-3 c =
     let i = c .before .before in
-    let a = i .before .before .before .before .before .before .before .before .args in
-    refused-as BadArg (out-long (a .self-delimited) (a .pad) (a .rp) (a .store .now) (a .begin) (a .end) (a .«data» .now) (still i) (c .before .if2 .left) (c .if3 .taken))
+    let a = i .before .before .before .before .before .before .args in
+    let r = taken (i .before .before) in
+    let room = c .before .if2 .left in
+    refused-as BadArg (out-long (a .self-delimited) (a .pad) r (a .store .now) (a .begin) (a .end) (a .«data» .now) (is i) room (c .if3 .taken))
 
 -- the collector, the store and the destination are in order
-ready : (c : tie.Else3) → let a = c .before .before .before .before .before .before .before .before .before .before .args in let r = taken (c .before .before .before .before) in outRange (a .self-delimited) (a .pad) (a .rp) (a .store .now) (a .begin) (a .end) (a .«data» .now) ≡ outFrames (a .self-delimited) (a .pad) (upperSix (r .toc)) (held r (a .store .now)) (a .begin) (a .end) (a .«data» .now)
+ready : (c : tie.Else3)
+    → let a = c .before .before .before .before .before .before .before .before .args in
+    let r = taken (c .before .before .before .before) in
+    outRange (a .self-delimited) (a .pad) r (a .store .now) (a .begin) (a .end) (a .«data» .now)
+    ≡ outFrames (a .self-delimited) (a .pad) (upperSix (r .toc)) (held r (a .store .now)) (a .begin) (a .end) (a .«data» .now)
 ready c =
-    let a = c .before .before .before .before .before .before .before .before .before .before .args in
-    let k = c .before .before .before .before in
-    ap (λ (rp : OpusRepacketizer). outRange (a .self-delimited) (a .pad) rp (a .store .now) (a .begin) (a .end) (a .«data» .now)) (sym (same k))
-    ∙ out-sound (a .self-delimited) (a .pad) (taken k) (a .store .now) (a .begin) (a .end) (a .«data» .now) (is (c .before .before)) (c .before .if2 .left) (c .if3 .left)
+    let a = c .before .before .before .before .before .before .before .before .args in
+    let r = taken (c .before .before .before .before) in
+    let i = is (c .before .before) in
+    out-sound (a .self-delimited) (a .pad) r (a .store .now) (a .begin) (a .end) (a .«data» .now) i (c .before .if2 .left) (c .if3 .left)
 
 returns-4 : tie.Need-returns-4
 returns-4 c =
     let n = c .before .before in
-    let s = n .before .before .before .before .before .before .before .before .before .before .before in
+    let s = n .before .before .before .before .before .before .before .before .before in
     let a = s .args in
     let r = taken (n .before .before .before .before .before) in
-    refused-as BadArg (ready (n .before) ∙ frames-before (a .self-delimited) (a .pad) (upperSix (r .toc)) (held r (a .store .now)) (a .«data» .now) (a .begin) (a .end) (counted (a .begin) (s .fits .begin) (n .count-of .ensures .0) (c .enum-told .given .1)))
+    let f = held r (a .store .now) in
+    let negative = counted (a .begin) (s .fits .begin) (n .count-of .ensures .0) (c .enum-told .given .1) in
+    refused-as BadArg
+    (ready (n .before) ∙ frames-before (a .self-delimited) (a .pad) (upperSix (r .toc)) f (a .«data» .now) (a .begin) (a .end) negative)
 
 returns-5 : tie.Need-returns-5
 returns-5 c =
     let m = c .before .before in
     let n = m .before .before .before .before in
-    let s = n .before .before .before .before .before .before .before .before .before .before .before in
+    let s = n .before .before .before .before .before .before .before .before .before in
     let a = s .args in
     let r = taken (n .before .before .before .before .before) in
-    refused-as BadArg (ready (n .before) ∙ frames-under (a .self-delimited) (a .pad) (upperSix (r .toc)) (held r (a .store .now)) (a .«data» .now) (a .begin) (a .end) (counted (a .end) (s .fits .end) (m .count-of2 .ensures .0) (c .enum-told2 .given .1)))
+    let f = held r (a .store .now) in
+    let negative = counted (a .end) (s .fits .end) (m .count-of2 .ensures .0) (c .enum-told2 .given .1) in
+    refused-as BadArg
+    (ready (n .before) ∙ frames-under (a .self-delimited) (a .pad) (upperSix (r .toc)) f (a .«data» .now) (a .begin) (a .end) negative)
 
-long : (c : tie.Start) → length (c .args .rp .len) ≡ 48
+long : (c : tie.After-check) → length (taken c .len) ≡ 48
 long c = search needs
-
-slice-aggregate-out-frames : tie.Need-slice-aggregate-out-frames
-slice-aggregate-out-frames c = sym (long (c .before .before .before .before .before .before .before .before .before .before .before .before .before .before .before .before .before .before .before))
 
 out-frames-requires : tie.Need-out-frames-requires
 out-frames-requires c κs =
     let t = c .before .before .before .before .before .before .before .before .before .before in
-    ((long (t .before .before .before .before .before .before .before .before .before .before), is (t .before .before)), (t .before .if2 .left, t .if3 .left))
+    ((long (t .before .before .before .before), is (t .before .before)), (t .before .if2 .left, t .if3 .left))
 
 returns-6 : tie.Need-returns-6
 returns-6 c =
@@ -95,19 +101,18 @@ returns-6 c =
     let m = e .before .before in
     let b = m .before .before in
     let n = b .before .before in
-    let s = n .before .before .before .before .before .before .before .before .before .before .before in
+    let s = n .before .before .before .before .before .before .before .before .before in
     let a = s .args in
     let r = taken (n .before .before .before .before .before) in
     let begins = is-natural (a .begin) _ (counted (a .begin) (s .fits .begin) (n .count-of .ensures .0) (b .b .given .1)) in
     let ends = is-natural (a .end) _ (counted (a .end) (s .fits .end) (m .count-of2 .ensures .0) (e .e .given .1)) in
-    answered (ready (n .before) ∙ frames-natural (a .self-delimited) (a .pad) (upperSix (r .toc)) (held r (a .store .now)) (a .«data» .now) begins ends) (f .out-frames .ensures)
+    answered (ready (n .before) ∙ frames-natural (a .self-delimited) (a .pad) (upperSix (r .toc)) (held r (a .store .now)) (a .«data» .now) begins ends)
+    (f .out-frames .ensures)
 
 pub out-answer-spec : {M : Type 1} → statement M
 out-answer-spec =
     tie.close
     (tie.spec
-    (λ c κs. search needs)
-    (λ c. search needs)
     (λ c κs. search needs)
     returns
     returns-2
@@ -120,7 +125,6 @@ out-answer-spec =
     (λ c. search needs)
     (λ c. search needs)
     returns-5
-    slice-aggregate-out-frames
     out-frames-requires
     (λ c. search needs)
     returns-6)
