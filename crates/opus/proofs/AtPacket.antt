@@ -191,7 +191,7 @@ module _ (d : List ℕ) (h : 1 ≤ length d) (count : ℕ) (r : List ℕ → Fro
     rest-read = rw (part-to-end d 1) at (answer-of rest (length d) (getD d 0 0) count 1 0 (r rest) (w rest) all-rest f l g)
 
 -- a packet that is not empty is read by its code
-by-code : (sd : Bool) (d : List ℕ) → 1 ≤ length d → read sd d ≡ readCode sd (getD d 0 0 % 4) (length d) (getD d 0 0) (drop 1 d)
+pub by-code : (sd : Bool) (d : List ℕ) → 1 ≤ length d → read sd d ≡ readCode sd (getD d 0 0 % 4) (length d) (getD d 0 0) (drop 1 d)
 unfolding read
 by-code sd [] h = absurd (omega arith)
 by-code sd (toc ∷ s) h = refl

@@ -1,19 +1,22 @@
 -- What the packet reader answers (document 01, 'Reading a packet').
 use Prim.Native.Nat.{ℕ}
-use mathlib.Core.List.{List, []}
-use mathlib.Core.Bool.{Bool, cond}
-use lib.Dec.{ltb}
+use mathlib.Core.List.{List, [], _∷_}
+use mathlib.Core.Bool.{Bool, false, cond}
+use lib.Dec.{ltb, eqb}
 use lib.IntN.{ℤ, pos}
-use lib.ListN.{length}
+use lib.ListN.{length, getD}
 use Rattle.opus_defines.specs.Numbers.{verdictNumber}
 use Rattle.opus_defines.specs.declared.Refusal.{Refusal}
 use Rattle.opus_defines.specs.declared.Refusal.the-variants.{BadArg, InvalidPacket}
 use Rattle.opus_defines.specs.declared.Verdict.{Verdict}
 use Rattle.opus_defines.specs.declared.Verdict.the-variants.{Accepted, Refused}
+use Rattle.opus_toc.specs.Toc.{code}
 use Rattle.opus_format.specs.Frames.{padded48}
 use Rattle.opus_format.specs.Reading.{Reading, refused, accepted, read}
 use Rattle.opus.specs.declared.Packet.{Packet}
 use Rattle.opus.specs.declared.PacketHead.{PacketHead}
+use Rattle.opus.specs.declared.Short.{Short}
+use Rattle.opus.specs.declared.Short.the-variants.{One, Two, Broken, Counted}
 
 -- a refusal, and zeros
 abbrev pub noPacket : Refusal → Packet
@@ -27,6 +30,18 @@ packetOf (accepted toc ns first taken) =
 -- `opus_packet_parse_impl`; `opus_packet_parse` is its ordinary form
 unfoldable pub parsed : Bool → List ℕ → Packet
 parsed sd p = cond (ltb 65535 (length p)) (noPacket BadArg) (packetOf (read sd p))
+
+-- one frame or two
+abbrev pub shortOf : Reading → Short
+shortOf (refused rule) = Broken
+shortOf (accepted toc [] first taken) = Counted
+shortOf (accepted toc (n ∷ []) first taken) = One n first
+shortOf (accepted toc (m ∷ n ∷ []) first taken) = Two m n first
+shortOf (accepted toc (m ∷ n ∷ k ∷ ns) first taken) = Counted
+
+-- `short_at`: an ordinary packet, but for code 3
+unfoldable pub shortAt : List ℕ → Short
+shortAt p = cond (eqb (code (getD p 0 0)) 3) Counted (shortOf (read false p))
 
 -- the number that the crate returns: the count, or the refusal's number
 abbrev pub packetNumber : Packet → ℤ

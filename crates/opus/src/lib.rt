@@ -7,7 +7,8 @@ ghost use Prim.Native.Nat.{_+_, _/_, _%_, _^_, _<_, _≤_};
 ghost use lib.ListN.{length, getD, drop};
 ghost use Rattle.opus_format.specs.Frames.{padded48};
 ghost use Rattle.opus_format.specs.Reading.{readPadding, behindPadding, read3, read};
-ghost use Rattle.opus.specs.Answers.{noPacket, packetOf, parsed, answerOf};
+ghost use Rattle.opus_toc.specs.Toc.{code};
+ghost use Rattle.opus.specs.Answers.{noPacket, packetOf, parsed, answerOf, shortOf, shortAt};
 ghost use Rattle.opus_parts.specs.Parts.{endOf};
 ghost use Rattle.opus.specs.Heads.{noHead, headAt};
 use opus_defines::Refusal;
@@ -18,6 +19,8 @@ use opus_parts::frames_at::frames_3;
 use opus_parts::frames_at::unequal_frames;
 use opus_parts::padding_at::PaddingAt;
 use opus_parts::padding_at::read_padding;
+use opus_parts::sizes_at::wide;
+use opus_size::SizeAt;
 
 // The longest packet, in bytes.
 pub const MOST_PACKET: usize = 65535;
@@ -97,7 +100,9 @@ fn behind_toc(toc: u8, count: usize, f: FramesAt) -> PacketHead
 fn read_body(data: &[u8], count: usize, self_delimited: bool, lengths: &mut [u16; 48]) -> PacketHead
     requires { ⌜ (2 ≤ length (now «data»)) × (length (now «data») ≤ 65535) × (1 ≤ count) × (count ≤ 48) ⌝ }
     requires zeros { ⌜ now lengths ≡ padded48 [] ⌝ }
-    ensures { λ r. ⌜ answerOf r (now (lengths .exit)) ≡ packetOf (behindPadding «self_delimited» (length (now («data» .entry))) (getD (now («data» .entry)) 0 0) (getD (now («data» .entry)) 1 0 / 128 % 2) count (readPadding (getD (now («data» .entry)) 1 0 / 64 % 2) (drop 2 (now («data» .entry))))) ⌝ }
+    ensures { λ r. ⌜ answerOf r (now (lengths .exit))
+        ≡ packetOf (behindPadding «self_delimited» (length (now («data» .entry))) (getD (now («data» .entry)) 0 0) (getD (now («data» .entry)) 1 0 / 128 % 2)
+        count (readPadding (getD (now («data» .entry)) 1 0 / 64 % 2) (drop 2 (now («data» .entry))))) ⌝ }
 {
     let count_byte = data[1];
     let tail = &data[2..];
@@ -115,7 +120,8 @@ fn read_body(data: &[u8], count: usize, self_delimited: bool, lengths: &mut [u16
 fn read_3(data: &[u8], self_delimited: bool, lengths: &mut [u16; 48]) -> PacketHead
     requires { ⌜ (1 ≤ length (now «data»)) × (length (now «data») ≤ 65535) ⌝ }
     requires zeros { ⌜ now lengths ≡ padded48 [] ⌝ }
-    ensures { λ r. ⌜ answerOf r (now (lengths .exit)) ≡ packetOf (read3 «self_delimited» (length (now («data» .entry))) (getD (now («data» .entry)) 0 0) (drop 1 (now («data» .entry)))) ⌝ }
+    ensures { λ r. ⌜ answerOf r (now (lengths .exit))
+        ≡ packetOf (read3 «self_delimited» (length (now («data» .entry))) (getD (now («data» .entry)) 0 0) (drop 1 (now («data» .entry)))) ⌝ }
 {
     if data.len() < 2 {
         return no_head(Refusal::InvalidPacket);
@@ -145,6 +151,79 @@ fn read_packet(data: &[u8], self_delimited: bool, lengths: &mut [u16; 48]) -> Pa
         1 => behind_toc(toc, 2, equal_frames(body, 2, self_delimited, lengths)),
         2 => behind_toc(toc, 2, unequal_frames(body, 1, self_delimited, lengths)),
         _ => read_3(data, self_delimited, lengths),
+    }
+}
+
+// An ordinary packet of one or two frames: their lengths, and the place of the first. `Counted` is code 3, which `read_into` reads.
+pub enum Short {
+    One(u16, usize),
+    Two(u16, u16, usize),
+    Broken,
+    Counted,
+}
+
+// Code 0: the frame takes the rest.
+fn one_frame(data: &[u8]) -> Short
+    requires { ⌜ (1 ≤ length (now «data»)) × (code (getD (now «data») 0 0) ≡ 0) ⌝ }
+    ensures { λ r. ⌜ r ≡ shortOf (read false (now («data» .entry))) ⌝ }
+{
+    let rest = data.len() - 1;
+    if opus_size::MOST_BYTES < rest {
+        return Short::Broken;
+    }
+    Short::One(rest as u16, 1)
+}
+
+// Code 1: the frames share the rest.
+fn two_equal(data: &[u8]) -> Short
+    requires { ⌜ (1 ≤ length (now «data»)) × (code (getD (now «data») 0 0) ≡ 1) ⌝ }
+    ensures { λ r. ⌜ r ≡ shortOf (read false (now («data» .entry))) ⌝ }
+{
+    let rest = data.len() - 1;
+    if rest % 2 != 0 {
+        return Short::Broken;
+    }
+    let each = rest / 2;
+    if opus_size::MOST_BYTES < each {
+        return Short::Broken;
+    }
+    Short::Two(each as u16, each as u16, 1)
+}
+
+// Code 2: the first frame says its length, and the second takes the rest.
+fn two_unequal(data: &[u8]) -> Short
+    requires { ⌜ (1 ≤ length (now «data»)) × (code (getD (now «data») 0 0) ≡ 2) ⌝ }
+    ensures { λ r. ⌜ r ≡ shortOf (read false (now («data» .entry))) ⌝ }
+{
+    let size = opus_size::size_at(data, 1);
+    let SizeAt::Whole(n, first) = size else {
+        return Short::Broken;
+    };
+    let left = data.len() - first;
+    let one = wide(n);
+    if left < one {
+        return Short::Broken;
+    }
+    let last = left - one;
+    if opus_size::MOST_BYTES < last {
+        return Short::Broken;
+    }
+    Short::Two(n, last as u16, first)
+}
+
+// Reads an ordinary packet of code 0, 1 or 2 without an array for its lengths, which costs more than the reading itself.
+pub fn short_at(data: &[u8]) -> Short
+    ensures { λ r. ⌜ r ≡ shortAt (now («data» .entry)) ⌝ }
+{
+    if data.len() == 0 {
+        return Short::Broken;
+    }
+    let c = data[0] % 4;
+    match c {
+        0 => one_frame(data),
+        1 => two_equal(data),
+        2 => two_unequal(data),
+        _ => Short::Counted,
     }
 }
 

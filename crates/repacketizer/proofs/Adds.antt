@@ -25,7 +25,7 @@ use Rattle.opus_toc.specs.declared.Samples8k.{Samples8k}
 use Rattle.opus_toc.specs.Toc.{upperSix, configuration, samples}
 use Rattle.opus_format.specs.Frames.{total, longest}
 use Rattle.opus_format.specs.Format.{Lasts}
-use Rattle.opus_format.specs.Reading.{Reading, refused, accepted, read}
+use Rattle.opus_format.specs.Reading.{Rule, Reading, refused, accepted, read}
 use Rattle.opus_format.proofs.Counts.{lasts-few}
 use Rattle.blocks.specs.Blocks.{copied}
 use Rattle.repacketizer.specs.declared.OpusRepacketizer.{OpusRepacketizer}
@@ -126,6 +126,10 @@ module _ (sd : Bool) (rp : OpusRepacketizer) (p store : List ℕ) where
   pub add-long : 65535 < length p → addPacket sd rp p store ≡ noAdd BadArg rp store
   unfolding addPacket
   add-long h = rw (lt-ltb 65535 (length p) h)
+
+  pub add-refused : (rule : Rule) → length p ≤ 65535 → read sd p ≡ refused rule → addPacket sd rp p store ≡ noAdd InvalidPacket rp store
+  unfolding addPacket
+  add-refused rule h r = rw (le-ltb 65535 (length p) h, r)
 
   pub add-read : (toc : ℕ) (ns : List ℕ) (first end : ℕ) → length p ≤ 65535 → read sd p ≡ accepted toc ns first end → addPacket sd rp p store ≡ addBlock rp toc ns p first store
   unfolding addPacket

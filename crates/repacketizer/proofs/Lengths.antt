@@ -1,10 +1,12 @@
 -- Lengths and frames that were stored behind others.
 --     sets-first, sets-again, sets-more     one length more, as a loop stores them
+--     one-put, two-put                      one length or two, as the code stores them at the place that it found
 --     take-sets-at                          lengths that were stored behind others are read back with them
 --     cut-copied                            frames that were copied behind others are read back with them
 -- Assumes nothing.
 use Prim.Native.Nat.{ℕ, suc, _+_, _≤_, _<_}
 use native.Mathlib.Omega.{arith}
+use native.Mathlib.Numerals.{add-one}
 use mathlib.Core.Path.{_≡_, ap, sym, _∙_}
 use mathlib.Core.List.{List, [], _∷_, _++_, append-assoc}
 use lib.ListN.{length, getD, take, drop, set, length-append, length-drop}
@@ -27,6 +29,14 @@ module _ (l : List ℕ) (at : ℕ) where
 pub sets-more : (ns : List ℕ) (i : ℕ) → i < length ns → (l : List ℕ) (at : ℕ) → set (sets l at (take i ns)) (at + i) (getD ns i 0) ≡ sets l at (take (i + 1) ns)
 sets-more ns i h l at =
     rw (take-next ns i h) (sets-next l at i (take i ns) (getD ns i 0) (length-take-le i ns (omega arith)))
+
+-- ---- one length, or two
+module _ (l : List ℕ) (place at : ℕ) where
+  pub one-put : (n : ℕ) → place ≡ at → set l place n ≡ sets l at (n ∷ [])
+  one-put n e = rw e
+
+  pub two-put : (m n : ℕ) → place ≡ at → set (set l place m) (place + 1) n ≡ sets l at (m ∷ n ∷ [])
+  two-put m n e = rw (e, add-one)
 
 -- ---- what was stored behind others
 pub take-sets-at : (l : List ℕ) (n : ℕ) (vs : List ℕ) → n + length vs ≤ length l → take (n + length vs) (sets l n vs) ≡ take n l ++ vs

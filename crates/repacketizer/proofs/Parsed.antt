@@ -7,7 +7,6 @@ use mathlib.Core.Path.{_≡_}
 use mathlib.Core.List.{List}
 use mathlib.Core.Bool.{Bool}
 use lib.ListN.{length}
-use borrow.Author.Tests.{le-ltb}
 use Rattle.opus_defines.specs.declared.Refusal.{Refusal}
 use Rattle.opus_defines.specs.declared.Refusal.the-variants.{InvalidPacket}
 use Rattle.opus_defines.specs.declared.Verdict.the-variants.{Accepted, Refused}
@@ -17,13 +16,14 @@ use Rattle.opus.proofs.Parsed.{Read, parsed-accepted, parsed-refused}
 use Rattle.opus.proofs.Lent.{packetWith, lent-accepted}
 use Rattle.repacketizer.specs.declared.OpusRepacketizer.{OpusRepacketizer}
 use Rattle.repacketizer.specs.Adding.{noAdd, addPacket}
+use Rattle.repacketizer.proofs.Adds.{add-refused}
 
 module _ (sd : Bool) (p : List ℕ) (h : PacketHead) (l : List ℕ) (e : answerOf h l ≡ parsed sd p) where
   pub lent-read : h .verdict ≡ Accepted → Read sd p (packetWith h l)
   lent-read v = parsed-accepted sd p (packetWith h l) (lent-accepted sd p h l e v) v
 
-  pub lent-refused : length p ≤ 65535 → {c : Refusal} → h .verdict ≡ Refused c → (rp : OpusRepacketizer) (store : List ℕ) → addPacket sd rp p store ≡ noAdd InvalidPacket rp store
-  unfolding addPacket
+  pub lent-refused : length p ≤ 65535 → {c : Refusal} → h .verdict ≡ Refused c → (rp : OpusRepacketizer) (store : List ℕ)
+      → addPacket sd rp p store ≡ noAdd InvalidPacket rp store
   lent-refused k {c} v rp store =
       let r = parsed-refused sd p (answerOf h l) e c v k in
-      rw (le-ltb 65535 (length p) k, r .1 .1)
+      add-refused sd rp p store (r .1 .0) k (r .1 .1)

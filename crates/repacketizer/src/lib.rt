@@ -1,6 +1,6 @@
 // The collector, and adding packets to it (repacketizer.rs): by value, and as a head with its lengths lent.
 ghost use mathlib.Core.Path.{_≡_};
-ghost use mathlib.Core.List.{[]};
+ghost use mathlib.Core.List.{[], _∷_};
 ghost use mathlib.Core.Bool.{true, false};
 ghost use Prim.Native.Nat.{_+_, _<_, _≤_, max};
 ghost use lib.ListN.{length};
@@ -11,6 +11,7 @@ ghost use Rattle.opus_format.specs.Frames.{total, longest};
 ghost use Rattle.repacketizer.specs.Collector.{empty, heldLengths, sound, nbFramesHeld, leastStore};
 ghost use Rattle.repacketizer.specs.Adding.{goesWith, addBlock, addPacket, added};
 ghost use Rattle.repacketizer.specs.Parts.{measured, headOf, collectorOf, checked, refusedHead, moreFrames, addedOf};
+use opus::Short;
 use opus_defines::Answer;
 use opus_defines::Refusal;
 use opus_defines::Verdict;
@@ -281,7 +282,96 @@ fn add_block(
     more_frames(h, toc, ns.len())
 }
 
-// Reads a packet and adds it to a sound collector. Each refusal is named here, so that its number is known where the collector is built.
+// The same for one frame of n bytes: going through a slice of lengths costs more than the rest.
+fn add_one(
+    h: Head,
+    len: &mut [u16],
+    at: usize,
+    toc: u8,
+    n: u16,
+    data: &[u8],
+    first: usize,
+    store: &mut [u8],
+) -> AddedHead
+    requires collector { ⌜ (length (now len) ≡ 48) × (sound (collectorOf h (now len)) ≡ true)
+        × (at ≡ total (heldLengths (collectorOf h (now len)))) × (leastStore ≤ length (now store)) ⌝ }
+    requires frames { ⌜ (longest (n ∷ []) ≤ mostBytes) × (first + total (n ∷ []) ≤ length (now «data»)) ⌝ }
+    ensures answer { λ r. ⌜ addedOf r (now (len .exit))
+        ≡ addBlock (collectorOf h (now (len .entry))) toc (n ∷ []) (now («data» .entry)) first (now (store .entry)) .answer ⌝ }
+    ensures bytes { λ _. ⌜ now (store .exit)
+        ≡ addBlock (collectorOf h (now (len .entry))) toc (n ∷ []) (now («data» .entry)) first (now (store .entry)) .store ⌝ }
+    ensures few { λ r. ⌜ r .count < 65536 ⌝ }
+{
+    if !goes_with(h, toc, 1) {
+        return refused_add(Refusal::InvalidPacket, h);
+    }
+    blocks::copy_into(store, at, data, first, wide(n));
+    let place = wide(h.nb_frames);
+    len[place] = n;
+    more_frames(h, toc, 1)
+}
+
+// The same for two frames.
+fn add_two(
+    h: Head,
+    len: &mut [u16],
+    at: usize,
+    toc: u8,
+    m: u16,
+    n: u16,
+    data: &[u8],
+    first: usize,
+    store: &mut [u8],
+) -> AddedHead
+    requires collector { ⌜ (length (now len) ≡ 48) × (sound (collectorOf h (now len)) ≡ true)
+        × (at ≡ total (heldLengths (collectorOf h (now len)))) × (leastStore ≤ length (now store)) ⌝ }
+    requires frames { ⌜ (longest (m ∷ n ∷ []) ≤ mostBytes) × (first + total (m ∷ n ∷ []) ≤ length (now «data»)) ⌝ }
+    ensures answer { λ r. ⌜ addedOf r (now (len .exit))
+        ≡ addBlock (collectorOf h (now (len .entry))) toc (m ∷ n ∷ []) (now («data» .entry)) first (now (store .entry)) .answer ⌝ }
+    ensures bytes { λ _. ⌜ now (store .exit)
+        ≡ addBlock (collectorOf h (now (len .entry))) toc (m ∷ n ∷ []) (now («data» .entry)) first (now (store .entry)) .store ⌝ }
+    ensures few { λ r. ⌜ r .count < 65536 ⌝ }
+{
+    if !goes_with(h, toc, 2) {
+        return refused_add(Refusal::InvalidPacket, h);
+    }
+    blocks::copy_into(store, at, data, first, wide(m) + wide(n));
+    let place = wide(h.nb_frames);
+    len[place] = m;
+    len[place + 1] = n;
+    more_frames(h, toc, 2)
+}
+
+// Reads a packet of any code and adds it to a sound collector. A refusal is named here, so that its number is known where the collector is built.
+fn add_read(
+    h: Head,
+    len: &mut [u16],
+    at: usize,
+    data: &[u8],
+    self_delimited: bool,
+    store: &mut [u8],
+) -> AddedHead
+    requires collector { ⌜ (length (now len) ≡ 48) × (sound (collectorOf h (now len)) ≡ true)
+        × (at ≡ total (heldLengths (collectorOf h (now len)))) × (leastStore ≤ length (now store)) ⌝ }
+    requires short { ⌜ length (now «data») ≤ 65535 ⌝ }
+    ensures answer { λ r. ⌜ addedOf r (now (len .exit))
+        ≡ addPacket «self_delimited» (collectorOf h (now (len .entry))) (now («data» .entry)) (now (store .entry)) .answer ⌝ }
+    ensures bytes { λ _. ⌜ now (store .exit)
+        ≡ addPacket «self_delimited» (collectorOf h (now (len .entry))) (now («data» .entry)) (now (store .entry)) .store ⌝ }
+    ensures few { λ r. ⌜ r .count < 65536 ⌝ }
+{
+    let mut lengths = [0u16; 48];
+    let p = opus::read_into(data, self_delimited, &mut lengths);
+    let v = p.verdict;
+    let Verdict::Accepted = v else {
+        return refused_add(Refusal::InvalidPacket, h);
+    };
+    let n = p.count;
+    let first = p.first;
+    add_block(h, len, at, p.toc, &lengths[..n], data, first, store)
+}
+
+// Adds a packet to a sound collector: an ordinary one of code 0, 1 or 2 without an array for its lengths.
 fn add_packet(
     h: Head,
     len: &mut [u16],
@@ -301,15 +391,16 @@ fn add_packet(
     if opus::MOST_PACKET < data.len() {
         return refused_add(Refusal::BadArg, h);
     }
-    let mut lengths = [0u16; 48];
-    let p = opus::read_into(data, self_delimited, &mut lengths);
-    let v = p.verdict;
-    let Verdict::Accepted = v else {
-        return refused_add(Refusal::InvalidPacket, h);
-    };
-    let n = p.count;
-    let first = p.first;
-    add_block(h, len, at, p.toc, &lengths[..n], data, first, store)
+    if self_delimited {
+        return add_read(h, len, at, data, true, store);
+    }
+    let s = opus::short_at(data);
+    match s {
+        Short::One(n, first) => add_one(h, len, at, data[0], n, data, first, store),
+        Short::Two(m, n, first) => add_two(h, len, at, data[0], m, n, data, first, store),
+        Short::Broken => refused_add(Refusal::InvalidPacket, h),
+        Short::Counted => add_read(h, len, at, data, false, store),
+    }
 }
 
 // Adds a packet in the named delimiting to the collector with this head and these lengths.

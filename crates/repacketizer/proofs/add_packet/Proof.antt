@@ -1,61 +1,101 @@
--- `repacketizer::add_packet` meets its contract: the frames that were read are added as one block.
+-- `repacketizer::add_packet` meets its contract: what was read of one frame or two is added, and any other packet is read whole.
 -- Assumes nothing.
-use mathlib.Core.Path.{sym}
+use mathlib.Core.Bool.{false}
+use mathlib.Core.List.{[], _∷_}
 use native.Mathlib.Omega.{arith}
 use borrow.Author.Needs.{needs}
-use lib.Seq.{length-take-le}
-use Rattle.opus_format.proofs.Facts.{facts}
-use Rattle.opus.proofs.Parsed.{Read, lengthsOf}
-use Rattle.opus.proofs.Lent.{packetWith}
+use Rattle.laws.specs.Bytes.{Bytes}
+use Rattle.opus.proofs.AtShort.{ShortRead, one-read, two-read, none-read}
 use Rattle.repacketizer.specs.Parts.{collectorOf}
-use Rattle.repacketizer.proofs.Parsed.{lent-read, lent-refused}
-use Rattle.repacketizer.proofs.Adds.{add-long, add-read, refused-as}
+use Rattle.repacketizer.proofs.Adds.{add-long, add-refused, add-read, refused-as}
 use Rattle.repacketizer.proofs.add_packet.Statement.{statement}
 use Rattle.repacketizer.proofs.add_packet.Tie as tie
 
 returns : tie.Need-returns
 returns c =
     let a = c .before .before .before .before .before .args in
-    refused-as (add-long (a .self-delimited) (collectorOf (a .h) (a .len .now)) (a .«data» .now) (a .store .now) (c .before .if1 .taken)) (c .refused-add .ensures)
+    let rp = collectorOf (a .h) (a .len .now) in
+    refused-as (add-long (a .self-delimited) rp (a .«data» .now) (a .store .now) (c .before .if1 .taken)) (c .refused-add .ensures)
 
 returns-2 : tie.Need-returns-2
 returns-2 c =
-    let r = c .before .before .before in
-    let i = r .before .before in
-    let a = i .before .before .before .before .args in
-    refused-as (lent-refused (a .self-delimited) (a .«data» .now) (r .read-into .result) (r .read-into .last .1 .1 .0) (r .read-into .ensures) (i .if1 .left) (c .before .enum-told2 .given .1) (collectorOf (a .h) (a .len .now)) (a .store .now)) (c .refused-add2 .ensures)
+    let r = c .before .before .before .before in
+    rw (r .before .before .before .if2 .taken) (r .add-read .ensures)
 
--- what was read of an accepted packet
-reading : (c : tie.After-enum-told) → let r = c .before .before in let a = r .before .before .before .before .before .before .args in Read (a .self-delimited) (a .«data» .now) (packetWith (r .read-into .result) (r .read-into .last .1 .1 .0))
-reading c =
-    let r = c .before .before in
-    let a = r .before .before .before .before .before .before .args in
-    lent-read (a .self-delimited) (a .«data» .now) (r .read-into .result) (r .read-into .last .1 .1 .0) (r .read-into .ensures) (c .enum-told .given .1)
+-- the packet is a list of bytes
+bytes : (c : tie.After-shared-slice-known) → Bytes (c .before .before .args .«data» .now)
+bytes c = record { byte = λ i. c .shared-slice-known .given i .fits }
 
-array-share-prefix-lengths : tie.Need-array-share-prefix-lengths
-array-share-prefix-lengths c = reading (c .before) .inside
+one : (c : tie.After-s)
+    → let a = c .before .before .before .before .before .before .before .before .args in
+    ShortRead (a .«data» .now) (c .s .given .0 .0 ∷ []) (c .s .given .0 .1 .0)
+one c =
+    let k = c .before .before in
+    let v = k .before .before .before .before in
+    one-read (v .before .before .args .«data» .now) (bytes v) (k .short-at .result) (k .short-at .ensures) _ _ (c .s .given .1)
 
-slice-aggregate-add-block : tie.Need-slice-aggregate-add-block
-slice-aggregate-add-block c = sym (length-take-le _ _ (reading (c .before .before) .inside))
+shared-slice-read-add-one : tie.Need-shared-slice-read-add-one
+shared-slice-read-add-one c =
+    let f = one (c .before .before .before) .known in
+    omega (arith, f .headed, f .block, f .within)
 
-add-block-requires : tie.Need-add-block-requires
-add-block-requires c κs =
-    let t = c .before .before .before in
-    let r = t .before .before in
-    let k = r .before .before .before .before in
-    let s = k .before .before in
-    let q = packetWith (r .read-into .result) (r .read-into .last .1 .1 .0) in
-    let f = facts (s .args .self-delimited) (s .args .«data» .now) (q .toc) (lengthsOf q) (q .first) (q .taken) (record { byte = λ i. k .shared-slice-known .given i .fits }) (reading t .means) in
-    (s .pre, (f .some, f .few, f .small, omega (arith, f .block, f .within)))
+add-one-requires : tie.Need-add-one-requires
+add-one-requires c κs =
+    let t = c .before .before .before .before in
+    let f = one t .known in
+    (t .before .before .before .before .before .before .before .before .pre, (f .small, omega (arith, f .block, f .within)))
 
 returns-3 : tie.Need-returns-3
 returns-3 c =
     let b = c .before .before .before .before in
-    let t = b .before .before .before .before in
-    let r = t .before .before in
-    let a = r .before .before .before .before .before .before .args in
-    let q = packetWith (r .read-into .result) (r .read-into .last .1 .1 .0) in
-    rw (add-read (a .self-delimited) (collectorOf (a .h) (a .len .now)) (a .«data» .now) (a .store .now) (q .toc) (lengthsOf q) (q .first) (q .taken) (reading t .short) (reading t .means)) (b .add-block .ensures)
+    let t = b .before .before .before .before .before in
+    let i = t .before .before .before in
+    let a = i .before .before .before .before .before .args in
+    let rp = collectorOf (a .h) (a .len .now) in
+    rw (i .if2 .left, add-read false rp (a .«data» .now) (a .store .now) _ _ _ (one t .taken) (i .before .if1 .left) (one t .means)) (b .add-one .ensures)
+
+two : (c : tie.After-s2)
+    → let a = c .before .before .before .before .before .before .before .before .args in
+    ShortRead (a .«data» .now) (c .s2 .given .0 .0 ∷ c .s2 .given .0 .1 .0 ∷ []) (c .s2 .given .0 .1 .1 .0)
+two c =
+    let k = c .before .before in
+    let v = k .before .before .before .before in
+    two-read (v .before .before .args .«data» .now) (bytes v) (k .short-at .result) (k .short-at .ensures) _ _ _ (c .s2 .given .1)
+
+shared-slice-read-add-two : tie.Need-shared-slice-read-add-two
+shared-slice-read-add-two c =
+    let f = two (c .before .before .before) .known in
+    omega (arith, f .headed, f .block, f .within)
+
+add-two-requires : tie.Need-add-two-requires
+add-two-requires c κs =
+    let t = c .before .before .before .before in
+    let f = two t .known in
+    (t .before .before .before .before .before .before .before .before .pre, (f .small, omega (arith, f .block, f .within)))
+
+returns-4 : tie.Need-returns-4
+returns-4 c =
+    let b = c .before .before .before .before in
+    let t = b .before .before .before .before .before in
+    let i = t .before .before .before in
+    let a = i .before .before .before .before .before .args in
+    let rp = collectorOf (a .h) (a .len .now) in
+    rw (i .if2 .left, add-read false rp (a .«data» .now) (a .store .now) _ _ _ (two t .taken) (i .before .if1 .left) (two t .means)) (b .add-two .ensures)
+
+returns-5 : tie.Need-returns-5
+returns-5 c =
+    let k = c .before .before .before in
+    let i = k .before in
+    let v = i .before .before .before in
+    let a = v .before .before .args in
+    let rp = collectorOf (a .h) (a .len .now) in
+    let bad = none-read (a .«data» .now) (bytes v) (k .short-at .result) (k .short-at .ensures) (c .before .enum-told .given .1) in
+    rw (i .if2 .left) (refused-as (add-refused false rp (a .«data» .now) (a .store .now) (bad .0) (i .before .if1 .left) (bad .1)) (c .refused-add2 .ensures))
+
+returns-6 : tie.Need-returns-6
+returns-6 c =
+    let r = c .before .before .before .before in
+    rw (r .before .before .before .before .before .before .if2 .left) (r .add-read2 .ensures)
 
 pub add-packet-spec : {M : Type 1} → statement M
 add-packet-spec =
@@ -66,11 +106,25 @@ add-packet-spec =
     (λ c κs. search needs)
     (λ c. search needs)
     (λ c. search needs)
-    (λ c κs. search needs)
     returns-2
-    array-share-prefix-lengths
-    slice-aggregate-add-block
-    add-block-requires
+    (λ c κs. search needs)
+    (λ c. search needs)
+    shared-slice-read-add-one
+    add-one-requires
+    (λ c. search needs)
+    shared-slice-read-add-two
+    add-two-requires
+    (λ c. search needs)
+    (λ c κs. search needs)
+    (λ c. search needs)
+    (λ c κs. search needs)
     (λ c. search needs)
     (λ c. search needs)
-    returns-3)
+    returns-3
+    (λ c. search needs)
+    (λ c. search needs)
+    returns-4
+    returns-5
+    (λ c. search needs)
+    (λ c. search needs)
+    returns-6)

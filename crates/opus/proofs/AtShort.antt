@@ -1,0 +1,157 @@
+-- An ordinary packet of code 0, 1 or 2, read without an array for its lengths.
+--     one-.., equal-.., unequal-..      codes 0, 1 and 2: one law for each `return`
+--     short-..                          what `short_at` answers, by its tests
+--     ShortRead, one-read, two-read, none-read     what a caller knows of the packet
+-- Assumes nothing.
+use Prim.Native.Nat.{ℕ, _-_, _/_, _%_, _≤_, _<_}
+use native.Mathlib.Omega.{arith}
+use native.Mathlib.Nat.{add-zero, sub-zero}
+use mathlib.Core.Path.{_≡_, refl}
+use mathlib.Core.List.{List, [], _∷_}
+use mathlib.Core.Bool.{true, false}
+use lib.Dec.{ltb, eqb}
+use lib.ListN.{length, getD, drop, length-drop}
+use borrow.Author.Tests.{lt-ltb, le-ltb, eq-eqb, ne-eqb}
+use Rattle.laws.proofs.Never.{by-test}
+use Rattle.laws.specs.Bytes.{Bytes}
+use Rattle.opus_size.specs.Size.{mostBytes, readField, noField}
+use Rattle.opus_size.proofs.At.{Found}
+use Rattle.opus_toc.specs.Toc.{code}
+use Rattle.opus_format.specs.Reading.{Rule, R2, R3, R4, unequal, readFields, behindFields, equal, Reading, refused, accepted, accept, read}
+use Rattle.opus_format.proofs.Sound.{read-spelled}
+use Rattle.opus_format.proofs.Facts.{Facts, facts}
+use Rattle.opus.specs.Answers.{shortOf, shortAt}
+use Rattle.opus.specs.declared.Short.{Short}
+use Rattle.opus.specs.declared.Short.the-variants.{One, Two, Broken, Counted}
+use Rattle.opus.proofs.AtPacket.{by-code}
+
+module _ (d : List ℕ) (h : 1 ≤ length d) where
+  rest : length (drop 1 d) ≡ length d - 1
+  rest = length-drop 1 d
+
+  place : (at : ℕ) → at ≤ length d → length d - 0 - length (drop at d) ≡ at
+  place at l = omega (arith, length-drop at d)
+
+  -- ---- code 0
+  module _ (e : code (getD d 0 0) ≡ 0) where
+    one-is : read false d ≡ accept (length d) (getD d 0 0) 0 (unequal false R2 [] (drop 1 d))
+    one-is = rw (by-code false d h, e)
+
+    no-less : ltb (length d - 1) 0 ≡ false
+    no-less = le-ltb (length d - 1) 0 (omega arith)
+
+    pub one-long : mostBytes < length d - 1 → Broken ≡ shortOf (read false d)
+    one-long m = rw (one-is, rest, no-less, sub-zero, lt-ltb mostBytes (length d - 1) m)
+
+    pub one-fits : length d - 1 ≤ mostBytes → One (length d - 1) 1 ≡ shortOf (read false d)
+    one-fits m = rw (one-is, rest, no-less, sub-zero, le-ltb mostBytes (length d - 1) m, place 1 h)
+
+  -- ---- code 1
+  module _ (e : code (getD d 0 0) ≡ 1) where
+    equal-is : read false d ≡ accept (length d) (getD d 0 0) 0 (equal false R3 2 (drop 1 d))
+    equal-is = rw (by-code false d h, e)
+
+    pub equal-odd : ((length d - 1) % 2 ≡ 0 → ⊥) → Broken ≡ shortOf (read false d)
+    equal-odd n = rw (equal-is, rest, ne-eqb ((length d - 1) % 2) 0 n)
+
+    module _ (z : (length d - 1) % 2 ≡ 0) where
+      even : eqb ((length d - 1) % 2) 0 ≡ true
+      even = eq-eqb ((length d - 1) % 2) 0 z
+
+      pub equal-long : mostBytes < (length d - 1) / 2 → Broken ≡ shortOf (read false d)
+      equal-long m = rw (equal-is, rest, even, lt-ltb mostBytes ((length d - 1) / 2) m)
+
+      pub equal-fits : (length d - 1) / 2 ≤ mostBytes → Two ((length d - 1) / 2) ((length d - 1) / 2) 1 ≡ shortOf (read false d)
+      equal-fits m = rw (equal-is, rest, even, le-ltb mostBytes ((length d - 1) / 2) m, place 1 h)
+
+  -- ---- code 2, whose first frame has n bytes, and a length field that ends at `first`
+  module _ (e : code (getD d 0 0) ≡ 2) where
+    unequal-is : read false d ≡ accept (length d) (getD d 0 0) 0 (behindFields false R4 (readFields 1 (drop 1 d)))
+    unequal-is = rw (by-code false d h, e)
+
+    pub unequal-cut : readField (drop 1 d) ≡ noField → Broken ≡ shortOf (read false d)
+    unequal-cut r = rw (unequal-is, r)
+
+    module _ (n first one : ℕ) (f : Found d 1 n first) (q : one ≡ n) where
+      left : length (drop first d) ≡ length d - first
+      left = length-drop first d
+
+      pub unequal-over : length d - first < one → Broken ≡ shortOf (read false d)
+      unequal-over m = rw (unequal-is, f .means, left, add-zero, lt-ltb (length d - first) n (omega arith))
+
+      module _ (k : one ≤ length d - first) where
+        enough : ltb (length d - first) n ≡ false
+        enough = le-ltb (length d - first) n (omega arith)
+
+        pub unequal-long : mostBytes < length d - first - one → Broken ≡ shortOf (read false d)
+        unequal-long m = rw (unequal-is, f .means, left, add-zero, enough, lt-ltb mostBytes (length d - first - n) (omega arith))
+
+        pub unequal-fits : length d - first - one ≤ mostBytes → Two n (length d - first - one) first ≡ shortOf (read false d)
+        unequal-fits m =
+            let small : ltb mostBytes (length d - first - n) ≡ false = le-ltb mostBytes (length d - first - n) (omega arith) in
+            rw (q, unequal-is, f .means, left, add-zero, enough, small, place first (f .within))
+
+-- ---- what `short_at` answers
+pub short-empty : (d : List ℕ) → length d ≡ 0 → Broken ≡ shortAt d
+unfolding shortAt read
+short-empty [] e = refl
+short-empty (a ∷ d) e = absurd (omega arith)
+
+module _ (d : List ℕ) where
+  pub short-read : {c : ℕ} → code (getD d 0 0) ≡ c → c < 3 → {r : Short} → r ≡ shortOf (read false d) → r ≡ shortAt d
+  unfolding shortAt
+  short-read e l q = rw (ne-eqb (code (getD d 0 0)) 3 (omega arith)) q
+
+  pub short-counted : (code (getD d 0 0) ≡ 0 → ⊥) → (code (getD d 0 0) ≡ 1 → ⊥) → (code (getD d 0 0) ≡ 2 → ⊥) → Counted ≡ shortAt d
+  unfolding shortAt
+  short-counted n₀ n₁ n₂ = rw (eq-eqb (code (getD d 0 0)) 3 (omega arith))
+
+-- ---- what a caller knows: what was answered is what is read of the packet
+pub record ShortRead (p ns : List ℕ) (first : ℕ) : Type 0 where
+  pub taken : ℕ
+  pub means : read false p ≡ accepted (getD p 0 0) ns first taken
+  pub known : Facts (length p) (getD p 0 0) ns first taken
+
+data Answered (p : List ℕ) : Short → Type 0 where
+  one : (n first : ℕ) → ShortRead p (n ∷ []) first → Answered p (One n first)
+  two : (m n first : ℕ) → ShortRead p (m ∷ n ∷ []) first → Answered p (Two m n first)
+  none : (rule : Rule) → read false p ≡ refused rule → Answered p Broken
+  other : Answered p Counted
+
+answered : (p : List ℕ) → Bytes p → Answered p (shortAt p)
+unfolding shortAt
+answered p bytes = by-test (eqb (code (getD p 0 0)) 3) (λ t. rw t other) (λ t. rw t (go (read false p) refl))
+  where
+    found : (toc : ℕ) (ns : List ℕ) (first taken : ℕ) → read false p ≡ accepted toc ns first taken → ShortRead p ns first
+    found toc ns first taken q =
+        let y : read false p ≡ accepted (getD p 0 0) ns first taken = rw (← read-spelled false p toc ns first taken bytes q .toc-is) q in
+        record { taken = taken; means = y; known = facts false p (getD p 0 0) ns first taken bytes y }
+
+    go : (x : Reading) → read false p ≡ x → Answered p (shortOf x)
+    go (refused rule) q = none rule q
+    go (accepted toc [] first taken) q = other
+    go (accepted toc (n ∷ []) first taken) q = one n first (found toc (n ∷ []) first taken q)
+    go (accepted toc (m ∷ n ∷ []) first taken) q = two m n first (found toc (m ∷ n ∷ []) first taken q)
+    go (accepted toc (m ∷ n ∷ k ∷ ns) first taken) q = other
+
+module _ (p : List ℕ) (bytes : Bytes p) (r : Short) (e : r ≡ shortAt p) where
+  was : {s : Short} → r ≡ s → Answered p s
+  was q = rw (← q, e) (answered p bytes)
+
+  pub one-read : (n first : ℕ) → r ≡ One n first → ShortRead p (n ∷ []) first
+  one-read n first q = go (was q)
+    where
+      go : Answered p (One n first) → ShortRead p (n ∷ []) first
+      go (one n first y) = y
+
+  pub two-read : (m n first : ℕ) → r ≡ Two m n first → ShortRead p (m ∷ n ∷ []) first
+  two-read m n first q = go (was q)
+    where
+      go : Answered p (Two m n first) → ShortRead p (m ∷ n ∷ []) first
+      go (two m n first y) = y
+
+  pub none-read : r ≡ Broken → (rule : Rule) × (read false p ≡ refused rule)
+  none-read q = go (was q)
+    where
+      go : Answered p Broken → (rule : Rule) × (read false p ≡ refused rule)
+      go (none rule y) = (rule, y)

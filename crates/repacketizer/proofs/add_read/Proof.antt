@@ -1,0 +1,81 @@
+-- `repacketizer::add_read` meets its contract: the frames that were read are added as one block.
+-- Assumes nothing.
+use mathlib.Core.Path.{sym}
+use native.Mathlib.Omega.{arith}
+use borrow.Author.Needs.{needs}
+use lib.Seq.{length-take-le}
+use Rattle.laws.specs.Bytes.{Bytes}
+use Rattle.opus_format.proofs.Facts.{facts}
+use Rattle.opus.proofs.Parsed.{Read, lengthsOf}
+use Rattle.opus.proofs.Lent.{packetWith}
+use Rattle.repacketizer.specs.Parts.{collectorOf}
+use Rattle.repacketizer.proofs.Parsed.{lent-read, lent-refused}
+use Rattle.repacketizer.proofs.Adds.{add-read, refused-as}
+use Rattle.repacketizer.proofs.add_read.Statement.{statement}
+use Rattle.repacketizer.proofs.add_read.Tie as tie
+
+returns : tie.Need-returns
+returns c =
+    let r = c .before .before .before in
+    let s = r .before .before .before .before .before in
+    let a = s .args in
+    let lent = r .read-into .last .1 .1 .0 in
+    let bad = c .before .enum-told2 .given .1 in
+    let rp = collectorOf (a .h) (a .len .now) in
+    refused-as
+    (lent-refused (a .self-delimited) (a .«data» .now) (r .read-into .result) lent (r .read-into .ensures) (s .pre .1) bad rp (a .store .now))
+    (c .refused-add .ensures)
+
+-- what was read of an accepted packet
+reading : (c : tie.After-enum-told)
+    → let r = c .before .before in
+    let a = r .before .before .before .before .before .args in
+    Read (a .self-delimited) (a .«data» .now) (packetWith (r .read-into .result) (r .read-into .last .1 .1 .0))
+reading c =
+    let r = c .before .before in
+    let a = r .before .before .before .before .before .args in
+    lent-read (a .self-delimited) (a .«data» .now) (r .read-into .result) (r .read-into .last .1 .1 .0) (r .read-into .ensures) (c .enum-told .given .1)
+
+array-share-prefix-lengths : tie.Need-array-share-prefix-lengths
+array-share-prefix-lengths c = reading (c .before) .inside
+
+slice-aggregate-add-block : tie.Need-slice-aggregate-add-block
+slice-aggregate-add-block c = sym (length-take-le _ _ (reading (c .before .before) .inside))
+
+add-block-requires : tie.Need-add-block-requires
+add-block-requires c κs =
+    let t = c .before .before .before in
+    let r = t .before .before in
+    let k = r .before .before .before in
+    let s = k .before .before in
+    let q = packetWith (r .read-into .result) (r .read-into .last .1 .1 .0) in
+    let bytes : Bytes (s .args .«data» .now) = record { byte = λ i. k .shared-slice-known .given i .fits } in
+    let f = facts (s .args .self-delimited) (s .args .«data» .now) (q .toc) (lengthsOf q) (q .first) (q .taken) bytes (reading t .means) in
+    (s .pre .0, (f .some, f .few, f .small, omega (arith, f .block, f .within)))
+
+returns-2 : tie.Need-returns-2
+returns-2 c =
+    let b = c .before .before .before .before in
+    let t = b .before .before .before .before in
+    let r = t .before .before in
+    let a = r .before .before .before .before .before .args in
+    let q = packetWith (r .read-into .result) (r .read-into .last .1 .1 .0) in
+    let rp = collectorOf (a .h) (a .len .now) in
+    rw (add-read (a .self-delimited) rp (a .«data» .now) (a .store .now) (q .toc) (lengthsOf q) (q .first) (q .taken) (reading t .short) (reading t .means))
+    (b .add-block .ensures)
+
+pub add-read-spec : {M : Type 1} → statement M
+add-read-spec =
+    tie.close
+    (tie.spec
+    (λ c κs. search needs)
+    (λ c. search needs)
+    (λ c. search needs)
+    (λ c κs. search needs)
+    returns
+    array-share-prefix-lengths
+    slice-aggregate-add-block
+    add-block-requires
+    (λ c. search needs)
+    (λ c. search needs)
+    returns-2)
