@@ -56,7 +56,7 @@ slice-write-len c =
     omega (arith, c .wide2 .ensures .0, few i, i .before .before .before .before .before .pre .0 .0)
 
 more-frames-requires : tie.Need-more-frames-requires
-more-frames-requires c κs = few (c .before .before .before .before .before .before)
+more-frames-requires c κs = omega (arith, few (c .before .before .before .before .before .before))
 
 returns-2 : tie.Need-returns-2
 returns-2 c =
