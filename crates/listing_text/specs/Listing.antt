@@ -4,9 +4,11 @@ use mathlib.Core.List.{List, [], _∷_, _++_}
 use mathlib.Core.Bool.{false, cond}
 use lib.Dec.{ltb}
 use lib.ListN.{length, drop}
+use Rattle.opus_defines.specs.Bounds.{mostPacket}
 use Rattle.opus_defines.specs.Numbers.{refusalNumber}
+use Rattle.opus_defines.specs.Rules.{ruleRefusal}
 use Rattle.opus_defines.specs.declared.Refusal.{Refusal}
-use Rattle.opus_defines.specs.declared.Refusal.the-variants.{BadArg, InvalidPacket}
+use Rattle.opus_defines.specs.declared.Refusal.the-variants.{BadArg}
 use Rattle.opus_toc.specs.Toc.{upperSix, time}
 use Rattle.opus_format.specs.Frames.{cut}
 use Rattle.opus_format.specs.Reading.{Reading, refused, accepted, read}
@@ -45,9 +47,9 @@ refusedLine e = refusal (refusalNumber e)
 
 -- ---- the listing
 unfoldable pub listed : List ℕ → Reading → List ℕ
-listed p (refused rule) = refusedLine InvalidPacket
+listed p (refused rule) = refusedLine (ruleRefusal rule)
 listed p (accepted toc ns first taken) = packetText toc ns first taken (length (compact false (upperSix toc) (cut ns (drop first p))))
 
 -- above 65,535 bytes nothing is read
 unfoldable pub listing : List ℕ → List ℕ
-listing p = cond (ltb 65535 (length p)) (refusedLine BadArg) (listed p (read false p))
+listing p = cond (ltb mostPacket (length p)) (refusedLine BadArg) (listed p (read false p))

@@ -25,8 +25,8 @@ use Rattle.opus_header.proofs.Rebuilt.{rebuilds}
 use Rattle.multistream.specs.declared.Passed.{Passed}
 use Rattle.multistream.specs.declared.Passed.the-variants.{Past, Stuck}
 use Rattle.multistream.specs.Streams.{further, passStreams}
-use Rattle.multistream.specs.Unpad.{Repacked, unread, repacked, ahead, repackReading, repackStreams, packedOf}
-use Rattle.multistream.specs.Parts.{compactBy, compactOf, takenBy}
+use Rattle.multistream.specs.Unpad.{Repacked, unread, repacked, ahead, repackReading, repackStreams}
+use Rattle.multistream.specs.Parts.{compactBy, compactOf, takenBy, packedOf}
 
 module _ (sd : Bool) (p : List ℕ) (toc : ℕ) (ns : List ℕ) (first taken : ℕ) (bytes : Bytes p) (r : read sd p ≡ accepted toc ns first taken) where
   pub taken-within : taken ≤ length p
@@ -51,7 +51,7 @@ further-within : (n m at : ℕ) (x : Passed) → ((a : ℕ) → x ≡ Past a →
 further-within n m at (Past a) h e =
     let same : n + a ≡ at = cc in
     omega (arith, h a refl)
-further-within n m at Stuck h e = never (cc)
+further-within n m at (Stuck f) h e = never (cc)
 
 pub pass-within : (k : ℕ) (p : List ℕ) (at : ℕ) → Bytes p → passStreams k p ≡ Past at → at ≤ length p
 pass-within zero p at bytes e =

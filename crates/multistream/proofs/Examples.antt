@@ -2,6 +2,7 @@
 -- Assumes nothing.
 use mathlib.Core.Path.{_≡_, refl}
 use mathlib.Core.List.{map}
+use Rattle.opus_defines.specs.Rules.{ruleRefusal}
 use Rattle.opus_toc.specs.Toc.{duration}
 use Rattle.opus_size.specs.Size.{lengthField}
 use Rattle.opus_size.specs.Answers.{encodeSize}
@@ -10,12 +11,13 @@ use Rattle.opus.specs.Answers.{parsed}
 use Rattle.opus.specs.Cases.{Case}
 use Rattle.opus_header.specs.Header.{header}
 use Rattle.opus_header.specs.Compact.{compact, full, filling}
-use Rattle.packet_pad.specs.Pad.{padPacket, padLengths, padded}
+use Rattle.packet_pad.specs.Lengths.{lengthsOf}
+use Rattle.packet_pad.specs.Pad.{padPacket, padded}
 use Rattle.packet_pad.specs.Unpad.{unpadPacket, unpadded}
-use Rattle.multistream.specs.Pad.{streamsPadLengths, streamsPadded}
-use Rattle.multistream.specs.Unpad.{streamsUnpadLength, streamsUnpadded}
+use Rattle.multistream.specs.Pad.{padStreams, streamsPadded}
+use Rattle.multistream.specs.Unpad.{unpadStreams, streamsUnpadded}
 use Rattle.multistream.specs.Cases.{allCases}
 
 pub all-cases : map (λ (c : Case). c .gives) allCases ≡ map (λ (c : Case). c .says) allCases
-unfolding parsed read duration lengthField encodeSize header compact full filling padPacket padLengths padded unpadPacket unpadded streamsPadLengths streamsPadded streamsUnpadLength streamsUnpadded
+unfolding ruleRefusal parsed read duration lengthField encodeSize header compact full filling lengthsOf padPacket padded unpadPacket unpadded padStreams streamsPadded unpadStreams streamsUnpadded
 all-cases = refl

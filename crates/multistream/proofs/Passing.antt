@@ -1,37 +1,64 @@
--- What the loop over the first streams keeps: the bytes so far with the streams from here on are all of them.
---     Passing                            the invariant
---     passing-start, passing-end         its start and its end
---     passing-stuck, passing-more        a stream that cannot be read, and one that can
+-- Streams that are read one behind another.
+--     pass-found, pass-refused                           one stream, by the reader's answer
+--     Passing                                            what the loop keeps: the bytes so far with the streams from here on are all of them
+--     passing-start, passing-end                         its start and its end
+--     passing-stuck, passing-more                        a stream that cannot be read, and one that can
+--     all-stuck, all-last                                all streams can be read where the first ones can, and then the last
 -- Assumes nothing.
 use Prim.Native.Nat.{ℕ, zero, suc, _+_, _-_, _≤_, _<_}
 use native.Mathlib.Nat.{add-zero}
 use native.Mathlib.Omega.{arith}
-use mathlib.Core.Path.{_≡_, refl}
-use mathlib.Core.List.{List}
-use mathlib.Core.Bool.{true}
+use mathlib.Core.Path.{_≡_, refl, sym, ap, _∙_}
+use mathlib.Core.List.{List, []}
+use mathlib.Core.Bool.{Bool, true, false}
 use lib.ListN.{length, take, drop, length-drop}
 use lib.Seq.{drop-drop}
 use borrow.Rule.Slice.PartAt.{part-to-end}
 use Rattle.laws.specs.Bytes.{Bytes}
 use Rattle.laws.proofs.Bytes.{bytes-drop}
+use Rattle.laws.proofs.Never.{never}
 use Rattle.opus_defines.specs.declared.Refusal.{Refusal}
-use Rattle.opus_defines.specs.declared.Verdict.the-variants.{Accepted, Refused}
-use Rattle.opus_format.specs.Reading.{accepted, read}
+use Rattle.opus_defines.specs.declared.Verdict.the-variants.{Accepted}
+use Rattle.opus_defines.specs.declared.Verdict.the-variants as Verdicts
+use Rattle.opus_toc.specs.Toc.{upperSix}
+use Rattle.opus_format.specs.Frames.{cut}
+use Rattle.opus_format.specs.Reading.{Reading, refused, accepted, read}
 use Rattle.opus.specs.Answers.{parsed}
 use Rattle.opus.specs.declared.Packet.{Packet}
-use Rattle.opus.proofs.Parsed.{lengthsOf, parsed-accepted, parsed-refused}
+use Rattle.opus.proofs.Parsed.{parsed-accepted, parsed-refused}
+use Rattle.opus_header.specs.Compact.{compact}
 use Rattle.multistream.specs.declared.Passed.{Passed}
 use Rattle.multistream.specs.declared.Passed.the-variants.{Past, Stuck}
-use Rattle.multistream.specs.Streams.{further, passStreams}
+use Rattle.multistream.specs.Streams.{passBy, further, thenPass, passStreams}
+use Rattle.multistream.specs.Unpad.{Repacked, unread, repacked, ahead, repackReading, repackStreams}
+use Rattle.multistream.specs.Parts.{verdictBy, verdictOf}
 use Rattle.multistream.proofs.Bounds.{taken-within}
 
+-- ---- one stream, with the reader's answer r
+module _ (sd : Bool) (s : List ℕ) (r : Packet) (p : r ≡ parsed sd s) where
+  pub pass-found : r .verdict ≡ Accepted → Past (r .taken) ≡ passBy (read sd s)
+  pass-found v = rw (parsed-accepted sd s r p v .means)
+
+  pub pass-refused : (e : Refusal) → r .verdict ≡ Verdicts.Refused e → length s ≤ 65535 → Stuck e ≡ passBy (read sd s)
+  pass-refused e v short = let q = parsed-refused sd s r p e v short in rw (q .2) (ap Stuck (q .1))
+
+pass-inside : (sd : Bool) (s : List ℕ) (n : ℕ) → Bytes s → passBy (read sd s) ≡ Past n → n ≤ length s
+pass-inside sd s n bytes e = go (read sd s) refl e
+  where
+    go : (x : Reading) → read sd s ≡ x → passBy x ≡ Past n → n ≤ length s
+    go (refused rule) q e = never (cc)
+    go (accepted toc ns first taken) q e =
+        let same : taken ≡ n = cc in
+        omega (arith, taken-within sd s toc ns first taken bytes q)
+
+-- ---- several streams
 further-none : (x : Passed) → further 0 x ≡ x
 further-none (Past at) = let e : 0 + at ≡ at = omega arith in rw e
-further-none Stuck = refl
+further-none (Stuck e) = refl
 
 further-more : (n m : ℕ) (x : Passed) → further n (further m x) ≡ further (n + m) x
 further-more n m (Past at) = let e : n + (m + at) ≡ n + m + at = omega arith in rw e
-further-more n m Stuck = refl
+further-more n m (Stuck e) = refl
 
 -- i of k streams are passed, up to the place `at`
 pub record Passing (s : List ℕ) (k at i : ℕ) : Type 0 where
@@ -53,35 +80,69 @@ module _ (s : List ℕ) (k : ℕ) where
         go zero c e = rw (add-zero at) at e
         go (suc left) c e = absurd (omega arith)
 
-    -- the reader's answer to what is left
-    module _ (r : Packet) (p : r ≡ parsed true (take (length s - at) (drop at s))) (h : i < k) where
-      answer : r ≡ parsed true (drop at s)
-      answer = rw (part-to-end s at) at p
+    -- x is what reading the next stream answered
+    module _ (x : Passed) (p : x ≡ passBy (read true (take (length s - at) (drop at s)))) (h : i < k) where
+      answer : passBy (read true (drop at s)) ≡ x
+      answer = sym (rw (part-to-end s at) at p)
 
-      pub passing-stuck : (e : Refusal) → r .verdict ≡ Refused e → length s ≤ 65535 → Stuck ≡ passStreams k s
-      passing-stuck e v short = go (z .left) (z .count) (z .rest)
+      pub passing-stuck : (e : Refusal) → x ≡ Stuck e → x ≡ passStreams k s
+      passing-stuck e v = go (z .left) (z .count) (z .rest)
         where
-          go : (left : ℕ) → left + i ≡ k → further at (passStreams left (drop at s)) ≡ passStreams k s → Stuck ≡ passStreams k s
+          go : (left : ℕ) → left + i ≡ k → further at (passStreams left (drop at s)) ≡ passStreams k s → x ≡ passStreams k s
           go zero c q = absurd (omega arith)
-          go (suc left) c q =
-              rw (parsed-refused true (drop at s) r answer e v (omega (arith, length-drop at s)) .1 .1) at q
+          go (suc left) c q = v ∙ rw (answer, v) at q
 
-      module _ (v : r .verdict ≡ Accepted) (bytes : Bytes s) where
-        means : read true (drop at s) ≡ accepted (r .toc) (lengthsOf r) (r .first) (r .taken)
-        means = parsed-accepted true (drop at s) r answer v .means
-
-        inner : at + r .taken ≤ length s
-        inner = omega (arith, z .inside, length-drop at s, taken-within true (drop at s) (r .toc) (lengthsOf r) (r .first) (r .taken) (bytes-drop at s bytes) means)
-
-        pub passing-more : Passing s k (at + r .taken) (i + 1)
+      module _ (n : ℕ) (v : x ≡ Past n) (bytes : Bytes s) where
+        pub passing-more : Passing s k (at + n) (i + 1)
         passing-more = go (z .left) (z .count) (z .rest)
           where
-            go : (left : ℕ) → left + i ≡ k → further at (passStreams left (drop at s)) ≡ passStreams k s → Passing s k (at + r .taken) (i + 1)
+            go : (left : ℕ) → left + i ≡ k → further at (passStreams left (drop at s)) ≡ passStreams k s → Passing s k (at + n) (i + 1)
             go zero c q = absurd (omega arith)
             go (suc left) c q =
                 record {
-                  inside = inner;
+                  inside = omega (arith, z .inside, length-drop at s, pass-inside true (drop at s) n (bytes-drop at s bytes) (answer ∙ v));
                   left = left;
                   count = omega arith;
-                  rest = rw (means, further-more at (r .taken) (passStreams left (drop (r .taken) (drop at s))), drop-drop (r .taken) at s) at q;
+                  rest = rw (answer, v, further-more at n (passStreams left (drop n (drop at s))), drop-drop n at s) at q;
                 }
+
+-- ---- all streams
+pub ahead-verdict : (q : List ℕ) (x : Repacked) → verdictOf (ahead q x) ≡ verdictOf x
+ahead-verdict q (unread e) = refl
+ahead-verdict q (repacked v) = refl
+
+last-verdict : (s : List ℕ) (x : Reading) → verdictBy (passBy x) ≡ verdictOf (repackReading false (λ t. repacked []) s x)
+last-verdict s (refused rule) = refl
+last-verdict s (accepted toc ns first taken) = refl
+
+-- what is known of the streams behind the first
+further-was : (n at : ℕ) (x : Passed) → further n x ≡ Past at → (b : ℕ) × (x ≡ Past b) × (n + b ≡ at)
+further-was n at (Past b) e = (b, refl, cc)
+further-was n at (Stuck f) e = never (cc)
+
+further-stuck : (n : ℕ) (x : Passed) (e : Refusal) → further n x ≡ Stuck e → x ≡ Stuck e
+further-stuck n (Past b) e h = never (cc)
+further-stuck n (Stuck f) e h = cc
+
+pub all-stuck : (k : ℕ) (s : List ℕ) (e : Refusal) → passStreams k s ≡ Stuck e → Verdicts.Refused e ≡ verdictOf (repackStreams k s)
+all-stuck zero s e h = never (cc)
+all-stuck (suc k) s e h = go (λ t. all-stuck k t e) (read true s) h
+  where
+    go : ((t : List ℕ) → passStreams k t ≡ Stuck e → Verdicts.Refused e ≡ verdictOf (repackStreams k t)) → (x : Reading) → thenPass (passStreams k) s (passBy x) ≡ Stuck e → Verdicts.Refused e ≡ verdictOf (repackReading true (repackStreams k) s x)
+    go next (refused rule) h = cc
+    go next (accepted toc ns first taken) h =
+        next (drop taken s) (further-stuck taken (passStreams k (drop taken s)) e h)
+        ∙ sym (ahead-verdict (compact true (upperSix toc) (cut ns (drop first s))) (repackStreams k (drop taken s)))
+
+pub all-last : (k : ℕ) (s : List ℕ) (at : ℕ) → passStreams k s ≡ Past at → verdictBy (passBy (read false (drop at s))) ≡ verdictOf (repackStreams k s)
+all-last zero s at h =
+    let none : 0 ≡ at = cc in
+    rw (← none) (last-verdict s (read false s))
+all-last (suc k) s at h = go (λ t. all-last k t) (read true s) h
+  where
+    go : ((t : List ℕ) (at : ℕ) → passStreams k t ≡ Past at → verdictBy (passBy (read false (drop at t))) ≡ verdictOf (repackStreams k t)) → (x : Reading) → thenPass (passStreams k) s (passBy x) ≡ Past at → verdictBy (passBy (read false (drop at s))) ≡ verdictOf (repackReading true (repackStreams k) s x)
+    go next (refused rule) h = never (cc)
+    go next (accepted toc ns first taken) h =
+        let w = further-was taken at (passStreams k (drop taken s)) h in
+        let there : drop (w .0) (drop taken s) ≡ drop at s = drop-drop (w .0) taken s ∙ ap (λ (n : ℕ). drop n s) (w .2) in
+        (rw there at (next (drop taken s) (w .0) (w .1))) ∙ sym (ahead-verdict (compact true (upperSix toc) (cut ns (drop first s))) (repackStreams k (drop taken s)))

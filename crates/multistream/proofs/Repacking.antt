@@ -41,10 +41,10 @@ use Rattle.opus_header.proofs.Forms.{compact-missing, compact-formed}
 use Rattle.opus.proofs.Parsed.{lengthsOf}
 use Rattle.packet_pad.proofs.Framed.{Lies, lies}
 use Rattle.multistream.specs.declared.Places.{Places}
-use Rattle.multistream.specs.Unpad.{Repacked, unread, repacked, ahead, repackReading, repackStreams, verdictOf, packedOf}
-use Rattle.multistream.specs.Parts.{stream, compactBy, compactOf, takenBy, isAccepted, nextPlaces}
+use Rattle.multistream.specs.Unpad.{Repacked, unread, repacked, ahead, repackReading, repackStreams}
+use Rattle.multistream.specs.Parts.{stream, compactBy, compactOf, takenBy, isAccepted, nextPlaces, verdictOf, packedOf}
 use Rattle.multistream.proofs.Bounds.{by-within}
-use Rattle.multistream.proofs.Checking.{ahead-verdict}
+use Rattle.multistream.proofs.Passing.{ahead-verdict}
 use Rattle.multistream.proofs.Lent.{sets-lent, drop-sets-past, drop-take}
 
 -- ---- one stream

@@ -1,84 +1,61 @@
 -- What pad and unpad write for a readable multistream packet: a packet that holds the same streams.
---     unpad-holds     no longer than it was
---     pad-holds       of the new length
+--     unpad-streams, pad-streams     for a packet p
+--     unpad-holds, pad-holds         for the packet in the first bytes of a buffer
 -- Assumes nothing.
 use Prim.Native.Nat.{ℕ, suc, _-_, _≤_, _<_}
 use native.Mathlib.Omega.{arith}
 use mathlib.Core.Path.{_≡_, refl, sym, ap, _∙_}
 use mathlib.Core.List.{List, [], _++_, append-nil}
 use mathlib.Core.Bool.{false}
+use lib.IntN.{pos}
 use lib.ListN.{length, take, drop, length-append, length-drop}
-use lib.Seq.{length-take-le, take-take}
-use borrow.Author.Tests.{le-ltb}
+use lib.Seq.{length-take-le}
+use borrow.Author.Tests.{ne-eqb}
 use Rattle.laws.specs.Bytes.{Bytes}
 use Rattle.laws.proofs.Bytes.{bytes-drop, bytes-take}
-use Rattle.opus_defines.specs.Outcome.{writes}
+use Rattle.opus_defines.specs.Outcome.{wrote, written, leaves, writes}
 use Rattle.opus_format.specs.Format.{Spells}
 use Rattle.opus_header.specs.Compact.{filling}
 use Rattle.opus_header.proofs.Filling.{filling-length}
-use Rattle.packet_pad.specs.Pad.{padsTo, padLengths}
-use Rattle.opus_header.proofs.Rebuilt.{never-longer}
-use Rattle.packet_pad.proofs.Spelled.{read-whole, filling-of, pad-spelled}
-use Rattle.multistream.specs.Pad.{streamsPadLengths}
-use Rattle.multistream.specs.Unpad.{streamsUnpadLength}
+use Rattle.opus_header.proofs.Rebuilt.{spelled-some, never-longer}
+use Rattle.packet_pad.specs.Pad.{padsTo}
+use Rattle.packet_pad.proofs.Given.{length-own, lengths-own}
+use Rattle.packet_pad.proofs.Spelled.{read-whole, filling-of, pads}
+use Rattle.multistream.specs.Streams.{streamsOf}
+use Rattle.multistream.specs.Pad.{padStreams, streamsPadded}
+use Rattle.multistream.specs.Unpad.{unpadStreams, streamsUnpadded}
 use Rattle.multistream.specs.Reading.{Stream, Streams, streams, readStreams}
 use Rattle.multistream.proofs.Bounds.{pass-within, packed-within}
-use Rattle.multistream.proofs.Calls.{pad-last}
+use Rattle.multistream.proofs.Counted.{streams-some}
+use Rattle.multistream.proofs.Calls.{pad-last, pad-more, unpad-some}
 use Rattle.multistream.proofs.Holding.{Held, held, frames, six, exchanged, readable-some, repack-holds, LastOf, last-of}
-use Rattle.multistream.proofs.Lent.{sets-front, drop-take}
-use Rattle.multistream.proofs.Within.{padded-within}
 
--- the last stream's packet p stands at `at`
-module _ {n : ℕ} {fs : List (List ℕ)} (s p : List ℕ) (at len new : ℕ) (e : take (len - at) (drop at s) ≡ p) (w : Spells false n p fs) (inside : at ≤ len) (more : len < new) (room : new ≤ length s) (short : new ≤ 65535) where
-  last-filled : padLengths (drop at s) (len - at) (new - at) ≡ padsTo (filling false n fs (new - at)) (drop at s)
-  last-filled =
-      let d = drop at s in
-      let long = length-drop at s in
-      let fits : len - at ≤ length d = omega arith in
-      let fits′ : new - at ≤ length d = omega arith in
-      sym (padded-within d (len - at) (new - at) fits (omega arith) fits′ (omega arith))
-      ∙ pad-spelled d (len - at) fits (omega arith) (rw e w) (new - at) (omega arith) fits′ (omega arith)
-
-  last-length : length (filling false n fs (new - at)) ≡ new - at
-  last-length =
-      let long : length p ≡ len - at = ap length (sym e) ∙ length-take-le (len - at) (drop at s) (omega (arith, length-drop at s)) in
-      filling-length false n fs (new - at) (omega (arith, never-longer w))
-
-module _ (s : List ℕ) (bytes : Bytes s) (len : ℕ) (fits : len ≤ length s) (k : ℕ) (xs : List Stream) (r : readStreams k (take len s) ≡ streams xs) where
+-- ---- a packet p of k + 1 streams
+module _ (k : ℕ) (p : List ℕ) (bytes : Bytes p) (xs : List Stream) (r : readStreams k p ≡ streams xs) where
   others : suc k - 1 ≡ k
   others = omega arith
 
-  all-bytes : Bytes (take len s)
-  all-bytes = bytes-take len s bytes
-
-  long : length (take len s) ≡ len
-  long = length-take-le len s fits
-
-  some : 1 ≤ len
-  some = omega (arith, long, readable-some k (take len s) all-bytes xs r)
-
-  pub unpad-holds : (q : List ℕ) × (streamsUnpadLength s len (suc k) ≡ writes q s) × (readStreams k q ≡ streams xs) × (length q ≤ len)
-  unfolding streamsUnpadLength
-  unpad-holds =
-      let h = repack-holds k (take len s) all-bytes xs r in
-      let size : length (h .0) ≤ length (take len s) = rw (h .1) at (packed-within k (take len s) all-bytes) in
-      (h .0, rw (le-ltb len 1 some, others, h .1), h .2, omega (arith, long))
+  pub unpad-streams : (q : List ℕ) × (unpadStreams (suc k) p ≡ written q) × (readStreams k q ≡ streams xs) × (length q ≤ length p)
+  unfolding unpadStreams
+  unpad-streams =
+      let h = repack-holds k p bytes xs r in
+      (h .0, rw (others, h .1), h .2, rw (h .1) at (packed-within k p bytes))
 
   -- the last stream
-  last : LastOf k (take len s) xs
-  last = last-of k (take len s) all-bytes xs r
+  last : LastOf k p xs
+  last = last-of k p bytes xs r
 
-  inside : last .at ≤ len
-  inside = omega (arith, long, pass-within k (take len s) (last .at) all-bytes (last .passed))
+  inside : last .at ≤ length p
+  inside = pass-within k p (last .at) bytes (last .passed)
 
   abbrev none : List ℕ → Streams
   none t = streams []
 
   abbrev packet : List ℕ
-  packet = drop (last .at) (take len s)
+  packet = drop (last .at) p
 
   packet-bytes : Bytes packet
-  packet-bytes = bytes-drop (last .at) (take len s) all-bytes
+  packet-bytes = bytes-drop (last .at) p bytes
 
   found : Held false none packet (last .last)
   found = held false none packet (last .last) (last .reads)
@@ -92,26 +69,53 @@ module _ (s : List ℕ) (bytes : Bytes s) (len : ℕ) (fits : len ≤ length s) 
   spelled : Spells false its-six packet its-frames
   spelled = read-whole packet (found .toc) (found .ns) (found .first) (found .taken) packet-bytes (found .means)
 
-  module _ (new : ℕ) (more : len < new) (room : new ≤ length s) (short : new ≤ 65535) where
+  module _ (new : ℕ) (more : length p < new) where
     abbrev filled : List ℕ
     filled = filling false its-six its-frames (new - last .at)
-
-    stands : take (len - last .at) (drop (last .at) s) ≡ packet
-    stands = sym (drop-take (last .at) len s)
 
     filled-reads : readStreams 0 filled ≡ streams (last .last)
     filled-reads =
         rw (append-nil filled) at
         (exchanged false none packet packet-bytes (last .last) found (filling-of spelled (new - last .at)) [] refl (found .rest))
 
-    pad-writes : streamsPadLengths s len new (suc k) ≡ padsTo (take (last .at) s ++ filled) s
-    pad-writes =
-        pad-last s len new (suc k) some (λ e. omega arith) (omega arith) (last .at) (rw others (last .passed))
-        ∙ rw (last-filled s packet (last .at) len new stands spelled inside more room short, sets-front s (last .at) filled (omega (arith, inside)))
+    filled-size : length filled ≡ new - last .at
+    filled-size =
+        filling-length false its-six its-frames (new - last .at) (omega (arith, never-longer spelled, length-drop (last .at) p, inside))
 
-    pub pad-holds : (q : List ℕ) × (streamsPadLengths s len new (suc k) ≡ padsTo q s) × (readStreams k q ≡ streams xs) × (length q ≡ new)
-    pad-holds =
+    pad-writes : padStreams (suc k) p new ≡ wrote 0 (take (last .at) p ++ filled)
+    pad-writes =
+        let left : length p - last .at ≡ 0 → ⊥ = λ z. omega (arith, spelled-some spelled, length-drop (last .at) p) in
+        pad-last p (suc k) new (last .at) (rw others (last .passed)) ∙ rw (ne-eqb (length p - last .at) 0 left, pads spelled (new - last .at))
+
+    pub pad-streams : (q : List ℕ) × (padStreams (suc k) p new ≡ wrote 0 q) × (readStreams k q ≡ streams xs) × (length q ≡ new)
+    pad-streams =
         let at = last .at in
-        let front : length (take at s) ≡ at = length-take-le at s (omega (arith, inside)) in
-        let size : length filled ≡ new - at = last-length s packet at len new stands spelled inside more room short in
-        (take at s ++ filled, pad-writes, rw (take-take at len s inside) at (last .keeps filled filled-reads), omega (arith, length-append (take at s) filled, inside))
+        let front : length (take at p) ≡ at = length-take-le at p inside in
+        (take at p ++ filled, pad-writes, last .keeps filled filled-reads, omega (arith, length-append (take at p) filled, filled-size, inside))
+
+-- ---- the packet in the first len bytes of a buffer
+module _ (s : List ℕ) (bytes : Bytes s) (len : ℕ) (fits : len ≤ length s) (most : len ≤ 65535) (k : ℕ) (few : suc k ≤ 255) (xs : List Stream) (r : readStreams k (take len s) ≡ streams xs) where
+  all-bytes : Bytes (take len s)
+  all-bytes = bytes-take len s bytes
+
+  long : length (take len s) ≡ len
+  long = length-take-le len s fits
+
+  some : 1 ≤ len
+  some = omega (arith, long, readable-some k (take len s) all-bytes xs r)
+
+  count : streamsOf (pos (suc k)) ≡ suc k
+  count = sym (streams-some (pos (suc k)) (suc k) refl few)
+
+  pub unpad-holds : (q : List ℕ) × (streamsUnpadded s (pos len) (pos (suc k)) ≡ writes q s) × (readStreams k q ≡ streams xs) × (length q ≤ len)
+  unpad-holds =
+      let h = unpad-streams k (take len s) all-bytes xs r in
+      let call = unpad-some s (pos len) (pos (suc k)) (suc k) count (λ z. omega arith) len (length-own s len fits most) (λ z. omega (arith, some)) in
+      (h .0, call ∙ ap (leaves s) (h .1), h .2, omega (arith, h .3, long))
+
+  module _ (new : ℕ) (more : len < new) (room : new ≤ length s) (short : new ≤ 65535) where
+    pub pad-holds : (q : List ℕ) × (streamsPadded s (pos len) (pos new) (pos (suc k)) ≡ padsTo q s) × (readStreams k q ≡ streams xs) × (length q ≡ new)
+    pad-holds =
+        let h = pad-streams k (take len s) all-bytes xs r new (omega (arith, long)) in
+        let call = pad-more s (pos len) (pos new) (pos (suc k)) (suc k) count (λ z. omega arith) len new (lengths-own s len new some more room short) in
+        (h .0, call ∙ ap (leaves s) (h .1), h .2, h .3)

@@ -1,26 +1,18 @@
 -- What the parts of the multistream calls answer. Contracts of functions that are not public cite these.
 use Prim.Native.Nat.{ℕ, _+_, _-_}
 use mathlib.Core.List.{List, []}
-use mathlib.Core.Bool.{Bool, true, false, cond}
-use lib.Dec.{ltb}
-use lib.IntN.{ℤ, pos, negsuc}
+use mathlib.Core.Bool.{Bool, true, false}
 use lib.ListN.{length, take, drop}
-use Rattle.opus_defines.specs.declared.Refusal.the-variants.{InvalidPacket}
 use Rattle.opus_defines.specs.declared.Verdict.{Verdict}
-use Rattle.opus_defines.specs.declared.Verdict.the-variants.{Accepted}
-use Rattle.opus_defines.specs.declared.Verdict.the-variants as Verdicts
+use Rattle.opus_defines.specs.declared.Verdict.the-variants.{Accepted, Refused}
 use Rattle.opus_toc.specs.Toc.{upperSix}
 use Rattle.opus_format.specs.Frames.{cut}
 use Rattle.opus_format.specs.Reading.{Reading, refused, accepted, read}
 use Rattle.opus_header.specs.Compact.{compact}
-use Rattle.multistream.specs.declared.Checked.{Checked}
-use Rattle.multistream.specs.declared.Checked.the-variants.{Taken, Refused}
+use Rattle.multistream.specs.Unpad.{Repacked, unread, repacked}
+use Rattle.multistream.specs.declared.Passed.{Passed}
+use Rattle.multistream.specs.declared.Passed.the-variants.{Past, Stuck}
 use Rattle.multistream.specs.declared.Places.{Places}
-
--- the stream count, and 0 where it is not 1 to 255
-abbrev pub streamsOf : ℤ → ℕ
-streamsOf (negsuc n) = 0
-streamsOf (pos n) = cond (ltb 255 n) 0 n
 
 -- what is left from a place on, of the first len bytes
 abbrev pub stream : List ℕ → ℕ → ℕ → List ℕ
@@ -45,10 +37,15 @@ isAccepted (accepted toc ns first taken) = true
 abbrev pub nextPlaces : ℕ → ℕ → Bool → List ℕ → Places
 nextPlaces to from sd s = record { to = to + length (compactOf sd s); from = from + takenBy (read sd s) }
 
-abbrev pub checkedBy : Reading → Checked
-checkedBy (refused rule) = Refused InvalidPacket
-checkedBy (accepted toc ns first taken) = Taken taken
+-- whether all streams can be read
+abbrev pub verdictBy : Passed → Verdict
+verdictBy (Past n) = Accepted
+verdictBy (Stuck e) = Refused e
 
-abbrev pub verdictBy : Checked → Verdict
-verdictBy (Taken n) = Accepted
-verdictBy (Refused e) = Verdicts.Refused e
+abbrev pub verdictOf : Repacked → Verdict
+verdictOf (unread e) = Refused e
+verdictOf (repacked q) = Accepted
+
+abbrev pub packedOf : Repacked → List ℕ
+packedOf (unread e) = []
+packedOf (repacked q) = q

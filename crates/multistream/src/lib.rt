@@ -2,25 +2,43 @@
 // rewritten stream never reaches an unread byte, since none is longer than it was.
 ghost use mathlib.Core.Path.{_≡_};
 ghost use mathlib.Core.Bool.{true};
-ghost use Prim.Native.Nat.{_≤_};
+ghost use Prim.Native.Nat.{_<_, _≤_};
 ghost use lib.ListN.{length, take};
 ghost use lib.Seq.{sets};
 ghost use Rattle.opus_defines.specs.Numbers.{numberOf};
+ghost use Rattle.opus_defines.specs.Outcome.{leaves};
 ghost use Rattle.opus_defines.specs.declared.Verdict.the-variants.{Accepted};
 ghost use Rattle.opus_format.specs.Reading.{read};
-ghost use Rattle.multistream.specs.Streams.{passStreams};
-ghost use Rattle.multistream.specs.Pad.{streamsPadLengths, streamsPadded};
-ghost use Rattle.multistream.specs.Unpad.{repackStreams, verdictOf, packedOf, streamsUnpadLength, streamsUnpadded};
-ghost use Rattle.multistream.specs.Parts.{streamsOf, stream, compactOf, isAccepted, nextPlaces, checkedBy, verdictBy};
+ghost use Rattle.multistream.specs.Streams.{streamsOf, passBy, passStreams};
+ghost use Rattle.multistream.specs.Pad.{padLast, padStreams, streamsPadded};
+ghost use Rattle.multistream.specs.Unpad.{repackStreams, unpadStreams, streamsUnpadded};
+ghost use Rattle.multistream.specs.Parts.{stream, compactOf, isAccepted, nextPlaces, verdictBy, verdictOf, packedOf};
 use opus_defines::Answer;
 use opus_defines::Count;
 use opus_defines::Refusal;
 use opus_defines::Verdict;
+use packet_pad::lengths::Lengths;
+use packet_pad::lengths::length_of;
+use packet_pad::lengths::lengths_of;
 
-// The bytes of the first streams, or that one of them cannot be read.
+// The bytes of the first streams, or why one of them cannot be read.
 pub enum Passed {
     Past(usize),
-    Stuck,
+    Stuck(Refusal),
+}
+
+// Reads the stream at the front of `data`.
+fn pass_stream(data: &[u8], self_delimited: bool) -> Passed
+    requires { ⌜ length (now «data») ≤ 65535 ⌝ }
+    ensures { λ r. ⌜ r ≡ passBy (read «self_delimited» (now («data» .entry))) ⌝ }
+{
+    let mut lengths = [0u16; 48];
+    let p = opus::read_into(data, self_delimited, &mut lengths);
+    let v = p.verdict;
+    let Verdict::Refused(e) = v else {
+        return Passed::Past(p.taken);
+    };
+    Passed::Stuck(e)
 }
 
 // Reads the first k streams, which are self-delimited.
@@ -31,38 +49,39 @@ fn pass_streams(data: &[u8], k: usize) -> Passed
     let mut at: usize = 0;
     let mut i: usize = 0;
     while i < k {
-        let mut lengths = [0u16; 48];
-        let p = opus::read_into(&data[at..], true, &mut lengths);
-        let v = p.verdict;
-        let Verdict::Accepted = v else {
-            return Passed::Stuck;
+        let p = pass_stream(&data[at..], true);
+        let Passed::Past(taken) = p else {
+            return p;
         };
-        at += p.taken;
+        at += taken;
         i += 1;
     }
     Passed::Past(at)
 }
 
-// Lengths within the buffer; equal ones are done without reading the packet.
-fn pad_lengths(data: &mut [u8], len: usize, new_len: usize, streams: usize) -> Answer
-    requires { ⌜ (len ≤ length (now «data»)) × («new_len» ≤ length (now «data»)) × (len ≤ 65535) × («new_len» ≤ 65535) × (1 ≤ streams) ⌝ }
-    ensures number { λ r. ⌜ numberOf r ≡ streamsPadLengths (now («data» .entry)) len «new_len» streams .number ⌝ }
-    ensures bytes { λ _. ⌜ now («data» .exit) ≡ streamsPadLengths (now («data» .entry)) len «new_len» streams .bytes ⌝ }
+// Pads the last stream, which stands at a place.
+fn pad_last(data: &mut [u8], len: usize, new_len: usize, at: usize) -> Answer
+    requires { ⌜ (at ≤ len) × (len < «new_len») × («new_len» ≤ length (now «data»)) × («new_len» ≤ 65535) ⌝ }
+    ensures number { λ r. ⌜ numberOf r ≡ leaves (now («data» .entry)) (padLast (take len (now («data» .entry))) «new_len» (Passed.Past at)) .number ⌝ }
+    ensures bytes { λ _. ⌜ now («data» .exit) ≡ leaves (now («data» .entry)) (padLast (take len (now («data» .entry))) «new_len» (Passed.Past at)) .bytes ⌝ }
 {
-    if len < 1 {
+    if at == len {
         return Answer::Refused(Refusal::BadArg);
     }
-    if len == new_len {
-        return Answer::Number(0);
+    packet_pad::pad_packet(&mut data[at..], len - at, new_len - at)
+}
+
+// The packet in the first `len` bytes, padded to more in its last stream.
+fn pad_streams(data: &mut [u8], len: usize, new_len: usize, streams: usize) -> Answer
+    requires { ⌜ (len < «new_len») × («new_len» ≤ length (now «data»)) × («new_len» ≤ 65535) × (1 ≤ streams) ⌝ }
+    ensures number { λ r. ⌜ numberOf r ≡ leaves (now («data» .entry)) (padStreams streams (take len (now («data» .entry))) «new_len») .number ⌝ }
+    ensures bytes { λ _. ⌜ now («data» .exit) ≡ leaves (now («data» .entry)) (padStreams streams (take len (now («data» .entry))) «new_len») .bytes ⌝ }
+{
+    let p = pass_streams(&data[..len], streams - 1);
+    match p {
+        Passed::Past(at) => pad_last(data, len, new_len, at),
+        Passed::Stuck(e) => Answer::Refused(e),
     }
-    if new_len < len {
-        return Answer::Refused(Refusal::BadArg);
-    }
-    let passed = pass_streams(&data[..len], streams - 1);
-    let Passed::Past(at) = passed else {
-        return Answer::Refused(Refusal::InvalidPacket);
-    };
-    packet_pad::pad_lengths(&mut data[at..], len - at, new_len - at)
 }
 
 // 1 to 255 streams; 0 for any other number.
@@ -82,23 +101,16 @@ fn pad_answer(data: &mut [u8], len: i32, new_len: i32, nb_streams: i32) -> Answe
     ensures number { λ r. ⌜ numberOf r ≡ streamsPadded (now («data» .entry)) len «new_len» «nb_streams» .number ⌝ }
     ensures bytes { λ _. ⌜ now («data» .exit) ≡ streamsPadded (now («data» .entry)) len «new_len» «nb_streams» .bytes ⌝ }
 {
-    let Count::Is(n) = opus_defines::count_of(len) else {
-        return Answer::Refused(Refusal::BadArg);
-    };
-    let Count::Is(m) = opus_defines::count_of(new_len) else {
-        return Answer::Refused(Refusal::BadArg);
-    };
     let streams = streams_of(nb_streams);
     if streams == 0 {
         return Answer::Refused(Refusal::BadArg);
     }
-    if packet_pad::is_over(data, n) {
-        return Answer::Refused(Refusal::BadArg);
+    let l = lengths_of(data, len, new_len);
+    match l {
+        Lengths::Bad => Answer::Refused(Refusal::BadArg),
+        Lengths::Same => Answer::Number(opus_defines::OPUS_OK),
+        Lengths::More(n, m) => pad_streams(data, n, m, streams),
     }
-    if packet_pad::is_over(data, m) {
-        return Answer::Refused(Refusal::BadArg);
-    }
-    pad_lengths(data, n, m, streams)
 }
 
 // Pads the multistream packet in the first `len` bytes of the buffer to `new_len`, in its last stream, and answers 0.
@@ -109,52 +121,16 @@ pub fn opus_multistream_packet_pad(data: &mut [u8], len: i32, new_len: i32, nb_s
     opus_defines::number_of(pad_answer(data, len, new_len, nb_streams))
 }
 
-// What reading one stream finds: its bytes, or the refusal.
-pub enum Checked {
-    Taken(usize),
-    Refused(Refusal),
-}
-
-// Reads the stream at the front of `data`. Its compact form always has room there, since it takes no more bytes (`rebuilds`).
-fn check_stream(data: &[u8], self_delimited: bool) -> Checked
-    requires { ⌜ length (now «data») ≤ 65535 ⌝ }
-    ensures { λ r. ⌜ r ≡ checkedBy (read «self_delimited» (now («data» .entry))) ⌝ }
-{
-    let mut lengths = [0u16; 48];
-    let p = opus::read_into(data, self_delimited, &mut lengths);
-    let v = p.verdict;
-    let Verdict::Refused(e) = v else {
-        return Checked::Taken(p.taken);
-    };
-    Checked::Refused(e)
-}
-
 // Reads all streams, k self-delimited ones and the last.
-fn check_streams(data: &[u8], k: usize) -> Verdict
+fn pass_all(data: &[u8], k: usize) -> Passed
     requires { ⌜ length (now «data») ≤ 65535 ⌝ }
-    ensures { λ r. ⌜ r ≡ verdictOf (repackStreams k (now («data» .entry))) ⌝ }
+    ensures { λ r. ⌜ verdictBy r ≡ verdictOf (repackStreams k (now («data» .entry))) ⌝ }
 {
-    let mut at: usize = 0;
-    let mut i: usize = 0;
-    while i < k {
-        let c = check_stream(&data[at..], true);
-        let Checked::Taken(taken) = c else {
-            return refused_by(c);
-        };
-        at += taken;
-        i += 1;
-    }
-    let c = check_stream(&data[at..], false);
-    refused_by(c)
-}
-
-fn refused_by(c: Checked) -> Verdict
-    ensures { λ r. ⌜ r ≡ verdictBy c ⌝ }
-{
-    match c {
-        Checked::Taken(_) => Verdict::Accepted,
-        Checked::Refused(e) => Verdict::Refused(e),
-    }
+    let p = pass_streams(data, k);
+    let Passed::Past(at) = p else {
+        return p;
+    };
+    pass_stream(&data[at..], false)
 }
 
 // Where the next compact packet goes, and where the next stream to read is.
@@ -209,37 +185,36 @@ fn repack_streams(data: &mut [u8], len: usize, k: usize) -> usize
     last.to
 }
 
-fn unpad_length(data: &mut [u8], len: usize, streams: usize) -> Answer
+// The packet in the first `len` bytes, with every stream in compact form. A stream's compact form always has room, since it takes no more
+// bytes than the stream (`rebuilds`).
+fn unpad_streams(data: &mut [u8], len: usize, streams: usize) -> Answer
     requires { ⌜ (len ≤ length (now «data»)) × (len ≤ 65535) × (1 ≤ streams) ⌝ }
-    ensures number { λ r. ⌜ numberOf r ≡ streamsUnpadLength (now («data» .entry)) len streams .number ⌝ }
-    ensures bytes { λ _. ⌜ now («data» .exit) ≡ streamsUnpadLength (now («data» .entry)) len streams .bytes ⌝ }
+    ensures number { λ r. ⌜ numberOf r ≡ leaves (now («data» .entry)) (unpadStreams streams (take len (now («data» .entry)))) .number ⌝ }
+    ensures bytes { λ _. ⌜ now («data» .exit) ≡ leaves (now («data» .entry)) (unpadStreams streams (take len (now («data» .entry)))) .bytes ⌝ }
 {
-    if len < 1 {
-        return Answer::Refused(Refusal::BadArg);
+    let p = pass_all(&data[..len], streams - 1);
+    match p {
+        Passed::Past(_) => {
+            let n = repack_streams(data, len, streams - 1);
+            Answer::Number(n as u16)
+        }
+        Passed::Stuck(e) => Answer::Refused(e),
     }
-    let v = check_streams(&data[..len], streams - 1);
-    let Verdict::Refused(e) = v else {
-        let n = repack_streams(data, len, streams - 1);
-        return Answer::Number(n as u16);
-    };
-    Answer::Refused(e)
 }
 
 fn unpad_answer(data: &mut [u8], len: i32, nb_streams: i32) -> Answer
     ensures number { λ r. ⌜ numberOf r ≡ streamsUnpadded (now («data» .entry)) len «nb_streams» .number ⌝ }
     ensures bytes { λ _. ⌜ now («data» .exit) ≡ streamsUnpadded (now («data» .entry)) len «nb_streams» .bytes ⌝ }
 {
-    let Count::Is(n) = opus_defines::count_of(len) else {
-        return Answer::Refused(Refusal::BadArg);
-    };
     let streams = streams_of(nb_streams);
     if streams == 0 {
         return Answer::Refused(Refusal::BadArg);
     }
-    if packet_pad::is_over(data, n) {
+    let n = length_of(data, len);
+    if n == 0 {
         return Answer::Refused(Refusal::BadArg);
     }
-    unpad_length(data, n, streams)
+    unpad_streams(data, n, streams)
 }
 
 // Brings every stream of the multistream packet in the first `len` bytes into compact form, and answers the bytes of all.

@@ -1,6 +1,6 @@
 -- A packet of frames that were read at a place.
 --     head-found, head-broken             the packet by what was read of its frames
---     body-..                             code 3 behind its count byte
+--     rule-.., body-..                    code 3 behind its count byte
 --     three-..                            code 3: its count byte, and 120 ms counted in samples
 --     code-..                             a packet by its code
 --     parse-..                            what the reader answers, by the tests on the length
@@ -18,14 +18,16 @@ use borrow.Author.Tests.{lt-ltb, le-ltb, leb-true}
 use borrow.Rule.Slice.PartAt.{part-to-end}
 use Rattle.laws.proofs.Every.{every-at}
 use Rattle.laws.proofs.Never.{never, by-test}
-use Rattle.opus_defines.specs.declared.Refusal.{Refusal}
-use Rattle.opus_defines.specs.declared.Refusal.the-variants.{BadArg, InvalidPacket}
+use Rattle.opus_defines.specs.Rules.{ruleRefusal}
+use Rattle.opus_defines.specs.declared.Refusal.the-variants.{BadArg}
 use Rattle.opus_defines.specs.declared.Verdict.the-variants.{Accepted, Refused}
 use Rattle.opus_size.specs.Size.{Field, noField, field}
 use Rattle.opus_toc.specs.Toc.{upperSix, configuration, duration, samples}
 use Rattle.opus_toc.proofs.Samples.{lasts-at}
 use Rattle.opus_format.specs.Frames.{total}
-use Rattle.opus_format.specs.Reading.{Rule, R2, R3, R4, R5, R6, R7, Front, broken, front, Fields, noFields, fields, readFields, behindFields, equal, readPadding, frames3, lasts, Reading, refused, accept, behindPadding, read3, readCode, read}
+use Rattle.opus_defines.specs.declared.Rule.{Rule}
+use Rattle.opus_defines.specs.declared.Rule.the-variants.{R1, R2, R3, R4, R5, R6, R7}
+use Rattle.opus_format.specs.Reading.{Front, broken, front, readFields, behindFields, equal, readPadding, frames3, sizeRule, lasts, Reading, refused, accept, behindPadding, read3, readCode, read}
 use Rattle.opus.specs.Answers.{noPacket, packetOf, parsed, answerOf}
 use Rattle.opus_parts.specs.Parts.{framesAt, framesLent, FramesRead, endOf, paddingAt}
 use Rattle.opus.specs.Heads.{noHead, headAt}
@@ -42,8 +44,8 @@ module _ (toc count at pad : ℕ) (f : FramesAt) where
       → record { verdict = Accepted; toc = toc; count = count; first = at + first; taken = at + first + sum + pad } ≡ headAt toc count at pad f
   head-found first sum e = rw e
 
-  pub head-broken : f ≡ Broken → noHead InvalidPacket ≡ headAt toc count at pad f
-  head-broken e = rw e
+  pub head-broken : (r : Rule) → f ≡ Broken r → noHead (ruleRefusal r) ≡ headAt toc count at pad f
+  head-broken r e = rw e
 
 pub end-found : (f : FramesAt) (first sum : ℕ) → f ≡ At first sum → endOf f ≡ first + sum
 end-found f first sum e = rw e
@@ -68,7 +70,15 @@ module _ (s : List ℕ) (m toc count at pad : ℕ) (r : Front) (w : Within (leng
   answer-fits = rw (g .0) (packet-fits m (length s) count at pad r w e)
 
 -- ---- code 3 behind its count byte
-unfit-refused : (sd : Bool) (k m toc v count : ℕ) (f : Field) → paddingAt k f ≡ Unfit → noPacket InvalidPacket ≡ packetOf (behindPadding sd m toc v count f)
+-- which rule a length breaks, by the flag for unequal lengths
+pub rule-equal : (v : ℕ) → v ≡ 0 → R6 ≡ sizeRule v
+rule-equal v e = rw e
+
+pub rule-unequal : (v : ℕ) → (v ≡ 0 → ⊥) → R7 ≡ sizeRule v
+rule-unequal zero n = absurd (n refl)
+rule-unequal (suc v) n = refl
+
+unfit-refused : (sd : Bool) (k m toc v count : ℕ) (f : Field) → paddingAt k f ≡ Unfit → noPacket (ruleRefusal (sizeRule v)) ≡ packetOf (behindPadding sd m toc v count f)
 unfit-refused sd k m toc v count noField e = refl
 unfit-refused sd k m toc v count (field pad t) e = by-test (ltb (length t) pad) (λ b. rw b) (λ b. never (let q = rw b at e in cc))
 
@@ -84,7 +94,7 @@ abbrev padding : List ℕ → Field
 padding d = readPadding (getD d 1 0 / 64 % 2) (part d 2 (length d))
 
 module _ (sd : Bool) (d : List ℕ) (count : ℕ) where
-  pub body-unfit : paddingAt (length (part d 2 (length d))) (padding d) ≡ Unfit → noPacket InvalidPacket ≡ packetOf (body sd d count)
+  pub body-unfit : paddingAt (length (part d 2 (length d))) (padding d) ≡ Unfit → noPacket (ruleRefusal (sizeRule (getD d 1 0 / 128 % 2))) ≡ packetOf (body sd d count)
   body-unfit e = unfit-refused sd (length (drop 2 d)) (length d) (getD d 0 0) (getD d 1 0 / 128 % 2) count (readPadding (getD d 1 0 / 64 % 2) (drop 2 d)) (rw (part-to-end d 2) at e)
 
   module _ (h : 2 ≤ length d) (pad next : ℕ) (e : paddingAt (length (part d 2 (length d))) (padding d) ≡ Whole pad next) where
@@ -142,36 +152,26 @@ module _ (sd : Bool) where
   three-is (toc ∷ []) h = absurd (omega arith)
   three-is (toc ∷ c ∷ s) h = refl
 
-  pub three-short : (d : List ℕ) → length d < 2 → noPacket InvalidPacket ≡ packetOf (read3 sd (length d) (getD d 0 0) (drop 1 d))
+  pub three-short : (d : List ℕ) → length d < 2 → noPacket (ruleRefusal R5) ≡ packetOf (read3 sd (length d) (getD d 0 0) (drop 1 d))
   three-short [] h = refl
   three-short (toc ∷ []) h = refl
   three-short (toc ∷ c ∷ s) h = absurd (omega arith)
 
   module _ (d : List ℕ) (h : 2 ≤ length d) where
-    pub three-none : getD d 1 0 % 64 ≡ 0 → noPacket InvalidPacket ≡ packetOf (read3 sd (length d) (getD d 0 0) (drop 1 d))
+    pub three-none : getD d 1 0 % 64 ≡ 0 → noPacket (ruleRefusal R5) ≡ packetOf (read3 sd (length d) (getD d 0 0) (drop 1 d))
     three-none z = rw (three-is d h, z)
 
     module _ (z : getD d 1 0 % 64 ≡ 0 → ⊥) (n : ℕ) (b : getD d 0 0 < 256) (e : n ≡ samples 48000 (configuration (getD d 0 0))) where
       lasting : leb (getD d 1 0 % 64 * n) 5760 ≡ lasts (upperSix (getD d 0 0)) (getD d 1 0 % 64)
       lasting = lasts-is (getD d 0 0) (getD d 1 0 % 64) n b e z
 
-      pub three-long : leb (getD d 1 0 % 64 * n) 5760 ≡ false → noPacket InvalidPacket ≡ packetOf (read3 sd (length d) (getD d 0 0) (drop 1 d))
+      pub three-long : leb (getD d 1 0 % 64 * n) 5760 ≡ false → noPacket (ruleRefusal R5) ≡ packetOf (read3 sd (length d) (getD d 0 0) (drop 1 d))
       three-long t = rw (three-is d h, ← lasting, t)
 
       pub three-read : leb (getD d 1 0 % 64 * n) 5760 ≡ true → (x : Packet) → x ≡ packetOf (body sd d (getD d 1 0 % 64)) → x ≡ packetOf (read3 sd (length d) (getD d 0 0) (drop 1 d))
       three-read t x e = rw (three-is d h, ← lasting, t) e
 
 -- ---- the codes
--- which rule refuses does not show in the packet
-module _ (m toc pad : ℕ) (q r : Rule) where
-  unequal-rule : (sd : Bool) (f : Fields) → packetOf (accept m toc pad (behindFields sd q f)) ≡ packetOf (accept m toc pad (behindFields sd r f))
-  unequal-rule sd noFields = refl
-  unequal-rule sd (fields ns s) = by-test (ltb (length s) (total ns)) (λ b. rw b) (λ b. rw b)
-
-  equal-rule : (sd : Bool) (count : ℕ) (s : List ℕ) → packetOf (accept m toc pad (equal sd q count s)) ≡ packetOf (accept m toc pad (equal sd r count s))
-  equal-rule false count s = by-test (eqb (length s % count) 0) (λ b. rw b) (λ b. rw b)
-  equal-rule true count s = refl
-
 -- frames that were read behind the TOC byte, as r reads them from any list
 module _ (d : List ℕ) (h : 1 ≤ length d) (count : ℕ) (r : List ℕ → Front) (w : (s : List ℕ) → Within (length s) count (r s)) where
   rest : List ℕ
@@ -203,38 +203,35 @@ third sd (suc (suc zero)) m toc s n₀ n₁ n₂ = absurd (n₂ refl)
 third sd (suc (suc (suc c))) m toc s n₀ n₁ n₂ = refl
 
 -- the two kinds of frames behind a TOC byte
-abbrev unequalIn : Bool → ℕ → List ℕ → Front
-unequalIn sd k s = behindFields sd R7 (readFields k s)
+abbrev unequalIn : Bool → Rule → ℕ → List ℕ → Front
+unequalIn sd r k s = behindFields sd r (readFields k s)
 
 abbrev equalIn : Bool → List ℕ → Front
-equalIn sd s = equal sd R6 2 s
+equalIn sd s = equal sd R3 2 s
 
 module _ (sd : Bool) (d : List ℕ) (h : 1 ≤ length d) where
-  module _ (k count : ℕ) (c : k + 1 ≡ count) (f : FramesAt) (l : List ℕ) (g : FramesRead (part d 1 (length d)) (unequalIn sd k (part d 1 (length d))) f l) where
+  module _ (k count : ℕ) (c : k + 1 ≡ count) (r : Rule) (f : FramesAt) (l : List ℕ) (g : FramesRead (part d 1 (length d)) (unequalIn sd r k (part d 1 (length d))) f l) where
     pub unequal-fits : 1 + endOf f + 0 ≤ length d
-    unequal-fits = rest-fits d h count (unequalIn sd k) (λ s. unequal-within s count sd R7 k c) f l g
+    unequal-fits = rest-fits d h count (unequalIn sd r k) (λ s. unequal-within s count sd r k c) f l g
 
-    unequal-read : (r : Rule) → readCode sd (getD d 0 0 % 4) (length d) (getD d 0 0) (drop 1 d) ≡ accept (length d) (getD d 0 0) 0 (behindFields sd r (readFields k (drop 1 d)))
+    unequal-read : readCode sd (getD d 0 0 % 4) (length d) (getD d 0 0) (drop 1 d) ≡ accept (length d) (getD d 0 0) 0 (unequalIn sd r k (drop 1 d))
         → answerOf (headAt (getD d 0 0) count 1 0 f) l ≡ packetOf (read sd d)
-    unequal-read r e =
-        rest-read d h count (unequalIn sd k) (λ s. unequal-within s count sd R7 k c) f l g
-        ∙ rw (by-code sd d h, e) (unequal-rule (length d) (getD d 0 0) 0 R7 r sd (readFields k (drop 1 d)))
+    unequal-read e =
+        rw (by-code sd d h, e) (rest-read d h count (unequalIn sd r k) (λ s. unequal-within s count sd r k c) f l g)
 
     module _ (x : PacketHead) (y : x ≡ headAt (getD d 0 0) count 1 0 f) where
-      pub code-0 : getD d 0 0 % 4 ≡ 0 → k ≡ 0 → answerOf x l ≡ packetOf (read sd d)
-      code-0 e z = rw y (unequal-read R2 (rw (e, z)))
+      pub code-0 : getD d 0 0 % 4 ≡ 0 → k ≡ 0 → r ≡ R2 → answerOf x l ≡ packetOf (read sd d)
+      code-0 e z q = rw y (unequal-read (rw (e, z, q)))
 
-      pub code-2 : getD d 0 0 % 4 ≡ 2 → k ≡ 1 → answerOf x l ≡ packetOf (read sd d)
-      code-2 e z = rw y (unequal-read R4 (rw (e, z)))
+      pub code-2 : getD d 0 0 % 4 ≡ 2 → k ≡ 1 → r ≡ R4 → answerOf x l ≡ packetOf (read sd d)
+      code-2 e z q = rw y (unequal-read (rw (e, z, q)))
 
   module _ (f : FramesAt) (l : List ℕ) (g : FramesRead (part d 1 (length d)) (equalIn sd (part d 1 (length d))) f l) where
     pub equal-fits : 1 + endOf f + 0 ≤ length d
-    equal-fits = rest-fits d h 2 (equalIn sd) (λ s. equal-within s 2 sd R6) f l g
+    equal-fits = rest-fits d h 2 (equalIn sd) (λ s. equal-within s 2 sd R3) f l g
 
     pub code-1 : (x : PacketHead) → x ≡ headAt (getD d 0 0) 2 1 0 f → getD d 0 0 % 4 ≡ 1 → answerOf x l ≡ packetOf (read sd d)
-    code-1 x y e =
-        rw y (rest-read d h 2 (equalIn sd) (λ s. equal-within s 2 sd R6) f l g
-        ∙ rw (by-code sd d h, e) (equal-rule (length d) (getD d 0 0) 0 R6 R3 sd 2 (drop 1 d)))
+    code-1 x y e = rw (y, by-code sd d h, e) (rest-read d h 2 (equalIn sd) (λ s. equal-within s 2 sd R3) f l g)
 
   pub code-3 : (getD d 0 0 % 4 ≡ 0 → ⊥) → (getD d 0 0 % 4 ≡ 1 → ⊥) → (getD d 0 0 % 4 ≡ 2 → ⊥) → packetOf (read3 sd (length d) (getD d 0 0) (drop 1 d)) ≡ packetOf (read sd d)
   code-3 n₀ n₁ n₂ = rw (by-code sd d h, third sd (getD d 0 0 % 4) (length d) (getD d 0 0) (drop 1 d) n₀ n₁ n₂)
@@ -245,7 +242,7 @@ module _ (sd : Bool) where
   unfolding parsed
   parse-long d h = rw (lt-ltb 65535 (length d) h)
 
-  pub parse-empty : (d : List ℕ) → length d ≡ 0 → noPacket InvalidPacket ≡ parsed sd d
+  pub parse-empty : (d : List ℕ) → length d ≡ 0 → noPacket (ruleRefusal R1) ≡ parsed sd d
   unfolding parsed read
   parse-empty [] e = refl
   parse-empty (a ∷ d) e = absurd (omega arith)

@@ -17,7 +17,9 @@ use Rattle.laws.specs.Bytes.{Bytes}
 use Rattle.opus_size.specs.Size.{mostBytes, readField, noField}
 use Rattle.opus_size.proofs.At.{Found}
 use Rattle.opus_toc.specs.Toc.{code}
-use Rattle.opus_format.specs.Reading.{Rule, R2, R3, R4, unequal, readFields, behindFields, equal, Reading, refused, accepted, accept, read}
+use Rattle.opus_defines.specs.declared.Rule.{Rule}
+use Rattle.opus_defines.specs.declared.Rule.the-variants.{R1, R2, R3, R4}
+use Rattle.opus_format.specs.Reading.{unequal, readFields, behindFields, equal, Reading, refused, accepted, accept, read}
 use Rattle.opus_format.proofs.Sound.{read-spelled}
 use Rattle.opus_format.proofs.Facts.{Facts, facts}
 use Rattle.opus.specs.Answers.{shortOf, shortAt}
@@ -40,7 +42,7 @@ module _ (d : List ℕ) (h : 1 ≤ length d) where
     no-less : ltb (length d - 1) 0 ≡ false
     no-less = le-ltb (length d - 1) 0 (omega arith)
 
-    pub one-long : mostBytes < length d - 1 → Broken ≡ shortOf (read false d)
+    pub one-long : mostBytes < length d - 1 → Broken R2 ≡ shortOf (read false d)
     one-long m = rw (one-is, rest, no-less, sub-zero, lt-ltb mostBytes (length d - 1) m)
 
     pub one-fits : length d - 1 ≤ mostBytes → One (length d - 1) 1 ≡ shortOf (read false d)
@@ -51,14 +53,14 @@ module _ (d : List ℕ) (h : 1 ≤ length d) where
     equal-is : read false d ≡ accept (length d) (getD d 0 0) 0 (equal false R3 2 (drop 1 d))
     equal-is = rw (by-code false d h, e)
 
-    pub equal-odd : ((length d - 1) % 2 ≡ 0 → ⊥) → Broken ≡ shortOf (read false d)
+    pub equal-odd : ((length d - 1) % 2 ≡ 0 → ⊥) → Broken R3 ≡ shortOf (read false d)
     equal-odd n = rw (equal-is, rest, ne-eqb ((length d - 1) % 2) 0 n)
 
     module _ (z : (length d - 1) % 2 ≡ 0) where
       even : eqb ((length d - 1) % 2) 0 ≡ true
       even = eq-eqb ((length d - 1) % 2) 0 z
 
-      pub equal-long : mostBytes < (length d - 1) / 2 → Broken ≡ shortOf (read false d)
+      pub equal-long : mostBytes < (length d - 1) / 2 → Broken R2 ≡ shortOf (read false d)
       equal-long m = rw (equal-is, rest, even, lt-ltb mostBytes ((length d - 1) / 2) m)
 
       pub equal-fits : (length d - 1) / 2 ≤ mostBytes → Two ((length d - 1) / 2) ((length d - 1) / 2) 1 ≡ shortOf (read false d)
@@ -69,21 +71,21 @@ module _ (d : List ℕ) (h : 1 ≤ length d) where
     unequal-is : read false d ≡ accept (length d) (getD d 0 0) 0 (behindFields false R4 (readFields 1 (drop 1 d)))
     unequal-is = rw (by-code false d h, e)
 
-    pub unequal-cut : readField (drop 1 d) ≡ noField → Broken ≡ shortOf (read false d)
+    pub unequal-cut : readField (drop 1 d) ≡ noField → Broken R4 ≡ shortOf (read false d)
     unequal-cut r = rw (unequal-is, r)
 
     module _ (n first one : ℕ) (f : Found d 1 n first) (q : one ≡ n) where
       left : length (drop first d) ≡ length d - first
       left = length-drop first d
 
-      pub unequal-over : length d - first < one → Broken ≡ shortOf (read false d)
+      pub unequal-over : length d - first < one → Broken R4 ≡ shortOf (read false d)
       unequal-over m = rw (unequal-is, f .means, left, add-zero, lt-ltb (length d - first) n (omega arith))
 
       module _ (k : one ≤ length d - first) where
         enough : ltb (length d - first) n ≡ false
         enough = le-ltb (length d - first) n (omega arith)
 
-        pub unequal-long : mostBytes < length d - first - one → Broken ≡ shortOf (read false d)
+        pub unequal-long : mostBytes < length d - first - one → Broken R2 ≡ shortOf (read false d)
         unequal-long m = rw (unequal-is, f .means, left, add-zero, enough, lt-ltb mostBytes (length d - first - n) (omega arith))
 
         pub unequal-fits : length d - first - one ≤ mostBytes → Two n (length d - first - one) first ≡ shortOf (read false d)
@@ -92,7 +94,7 @@ module _ (d : List ℕ) (h : 1 ≤ length d) where
             rw (q, unequal-is, f .means, left, add-zero, enough, small, place first (f .within))
 
 -- ---- what `short_at` answers
-pub short-empty : (d : List ℕ) → length d ≡ 0 → Broken ≡ shortAt d
+pub short-empty : (d : List ℕ) → length d ≡ 0 → Broken R1 ≡ shortAt d
 unfolding shortAt read
 short-empty [] e = refl
 short-empty (a ∷ d) e = absurd (omega arith)
@@ -115,7 +117,7 @@ pub record ShortRead (p ns : List ℕ) (first : ℕ) : Type 0 where
 data Answered (p : List ℕ) : Short → Type 0 where
   one : (n first : ℕ) → ShortRead p (n ∷ []) first → Answered p (One n first)
   two : (m n first : ℕ) → ShortRead p (m ∷ n ∷ []) first → Answered p (Two m n first)
-  none : (rule : Rule) → read false p ≡ refused rule → Answered p Broken
+  none : (rule : Rule) → read false p ≡ refused rule → Answered p (Broken rule)
   other : Answered p Counted
 
 answered : (p : List ℕ) → Bytes p → Answered p (shortAt p)
@@ -150,8 +152,8 @@ module _ (p : List ℕ) (bytes : Bytes p) (r : Short) (e : r ≡ shortAt p) wher
       go : Answered p (Two m n first) → ShortRead p (m ∷ n ∷ []) first
       go (two m n first y) = y
 
-  pub none-read : r ≡ Broken → (rule : Rule) × (read false p ≡ refused rule)
-  none-read q = go (was q)
+  pub none-read : (rule : Rule) → r ≡ Broken rule → read false p ≡ refused rule
+  none-read rule q = go (was q)
     where
-      go : Answered p Broken → (rule : Rule) × (read false p ≡ refused rule)
-      go (none rule y) = (rule, y)
+      go : Answered p (Broken rule) → read false p ≡ refused rule
+      go (none rule y) = y

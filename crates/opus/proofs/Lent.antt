@@ -10,8 +10,9 @@ use mathlib.Core.Bool.{Bool}
 use lib.Dec.{ltb}
 use lib.ListN.{length}
 use Rattle.laws.proofs.Never.{never, by-test}
+use Rattle.opus_defines.specs.Rules.{ruleRefusal}
 use Rattle.opus_defines.specs.declared.Refusal.{Refusal}
-use Rattle.opus_defines.specs.declared.Refusal.the-variants.{BadArg, InvalidPacket}
+use Rattle.opus_defines.specs.declared.Refusal.the-variants.{BadArg}
 use Rattle.opus_defines.specs.declared.Verdict.the-variants.{Accepted, Refused}
 use Rattle.opus_format.specs.Reading.{Reading, refused, accepted, read}
 use Rattle.opus.specs.Answers.{noPacket, packetOf, parsed, keptLengths, answerOf}
@@ -31,7 +32,7 @@ lent-accepted sd p h l e v =
     ap (λ (ns : List ℕ). packetWith h ns) (sym k) ∙ e
 
 none-of : (r : Reading) (c : Refusal) → packetOf r .verdict ≡ Refused c → noPacket c ≡ packetOf r
-none-of (refused rule) c v = let same : InvalidPacket ≡ c = cc in rw same
+none-of (refused rule) c v = let same : ruleRefusal rule ≡ c = cc in rw same
 none-of (accepted toc ns first taken) c v = never (cc)
 
 none-parsed : (sd : Bool) (p : List ℕ) (c : Refusal) → parsed sd p .verdict ≡ Refused c → noPacket c ≡ parsed sd p

@@ -13,9 +13,10 @@ use lib.Seq.{take-append-seam}
 use borrow.Author.Tests.{ltb-false, le-ltb}
 use Rattle.laws.proofs.Never.{never, by-test}
 use Rattle.opus_defines.specs.declared.Refusal.{Refusal}
-use Rattle.opus_defines.specs.declared.Refusal.the-variants.{InvalidPacket}
+use Rattle.opus_defines.specs.Rules.{ruleRefusal}
 use Rattle.opus_defines.specs.declared.Verdict.the-variants.{Accepted, Refused}
-use Rattle.opus_format.specs.Reading.{Rule, Reading, refused, accepted, read}
+use Rattle.opus_defines.specs.declared.Rule.{Rule}
+use Rattle.opus_format.specs.Reading.{Reading, refused, accepted, read}
 use Rattle.opus.specs.Answers.{packetOf, parsed}
 use Rattle.opus.specs.declared.Packet.{Packet}
 
@@ -42,10 +43,10 @@ module _ (sd : Bool) (p : List ℕ) where
         go h f (refused rule) q = never (let x = rw q at f in cc)
         go h f (accepted toc ns first taken) q = rw (rw q at f) (read-of toc ns first taken h q)
 
-    pub parsed-refused : (c : Refusal) → r .verdict ≡ Refused c → length p ≤ 65535 → (c ≡ InvalidPacket) × ((rule : Rule) × (read sd p ≡ refused rule))
+    pub parsed-refused : (c : Refusal) → r .verdict ≡ Refused c → length p ≤ 65535 → (rule : Rule) × (c ≡ ruleRefusal rule) × (read sd p ≡ refused rule)
     unfolding parsed
     parsed-refused c v h = go (rw (le-ltb 65535 (length p) h) at e) (read sd p) refl
       where
-        go : r ≡ packetOf (read sd p) → (x : Reading) → read sd p ≡ x → (c ≡ InvalidPacket) × ((rule : Rule) × (read sd p ≡ refused rule))
-        go f (refused rule) q = (let x = rw q at f in cc, (rule, q))
+        go : r ≡ packetOf (read sd p) → (x : Reading) → read sd p ≡ x → (rule : Rule) × (c ≡ ruleRefusal rule) × (read sd p ≡ refused rule)
+        go f (refused rule) q = (rule, let x = rw q at f in cc, q)
         go f (accepted toc ns first taken) q = never (let x = rw q at f in cc)

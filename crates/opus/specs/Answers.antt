@@ -5,9 +5,11 @@ use mathlib.Core.Bool.{Bool, false, cond}
 use lib.Dec.{ltb, eqb}
 use lib.IntN.{ℤ, pos}
 use lib.ListN.{length, getD}
+use Rattle.opus_defines.specs.Bounds.{mostPacket}
+use Rattle.opus_defines.specs.Rules.{ruleRefusal}
 use Rattle.opus_defines.specs.Numbers.{verdictNumber}
 use Rattle.opus_defines.specs.declared.Refusal.{Refusal}
-use Rattle.opus_defines.specs.declared.Refusal.the-variants.{BadArg, InvalidPacket}
+use Rattle.opus_defines.specs.declared.Refusal.the-variants.{BadArg}
 use Rattle.opus_defines.specs.declared.Verdict.{Verdict}
 use Rattle.opus_defines.specs.declared.Verdict.the-variants.{Accepted, Refused}
 use Rattle.opus_toc.specs.Toc.{code}
@@ -23,17 +25,17 @@ abbrev pub noPacket : Refusal → Packet
 noPacket e = record { verdict = Refused e; toc = 0; count = 0; lengths = padded48 []; first = 0; taken = 0 }
 
 abbrev pub packetOf : Reading → Packet
-packetOf (refused rule) = noPacket InvalidPacket
+packetOf (refused rule) = noPacket (ruleRefusal rule)
 packetOf (accepted toc ns first taken) =
     record { verdict = Accepted; toc = toc; count = length ns; lengths = padded48 ns; first = first; taken = taken }
 
 -- `opus_packet_parse_impl`; `opus_packet_parse` is its ordinary form
 unfoldable pub parsed : Bool → List ℕ → Packet
-parsed sd p = cond (ltb 65535 (length p)) (noPacket BadArg) (packetOf (read sd p))
+parsed sd p = cond (ltb mostPacket (length p)) (noPacket BadArg) (packetOf (read sd p))
 
 -- one frame or two
 abbrev pub shortOf : Reading → Short
-shortOf (refused rule) = Broken
+shortOf (refused rule) = Broken rule
 shortOf (accepted toc [] first taken) = Counted
 shortOf (accepted toc (n ∷ []) first taken) = One n first
 shortOf (accepted toc (m ∷ n ∷ []) first taken) = Two m n first

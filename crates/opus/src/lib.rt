@@ -6,12 +6,14 @@ ghost use mathlib.Core.List.{[]};
 ghost use Prim.Native.Nat.{_+_, _/_, _%_, _^_, _<_, _≤_};
 ghost use lib.ListN.{length, getD, drop};
 ghost use Rattle.opus_format.specs.Frames.{padded48};
-ghost use Rattle.opus_format.specs.Reading.{readPadding, behindPadding, read3, read};
 ghost use Rattle.opus_toc.specs.Toc.{code};
+ghost use Rattle.opus_defines.specs.Rules.{ruleRefusal};
+ghost use Rattle.opus_format.specs.Reading.{sizeRule, readPadding, behindPadding, read3, read};
 ghost use Rattle.opus.specs.Answers.{noPacket, packetOf, parsed, answerOf, shortOf, shortAt};
 ghost use Rattle.opus_parts.specs.Parts.{endOf};
 ghost use Rattle.opus.specs.Heads.{noHead, headAt};
 use opus_defines::Refusal;
+use opus_defines::Rule;
 use opus_defines::Verdict;
 use opus_parts::frames_at::FramesAt;
 use opus_parts::frames_at::equal_frames;
@@ -70,21 +72,40 @@ fn no_head(e: Refusal) -> PacketHead
     }
 }
 
+// A packet that breaks a rule.
+fn broken_head(rule: Rule) -> PacketHead
+    ensures { λ r. ⌜ r ≡ noHead (ruleRefusal rule) ⌝ }
+{
+    no_head(opus_defines::rule_refusal(rule))
+}
+
+// R6 for equal lengths, R7 for unequal ones, by the count byte's flag.
+fn size_rule(count_byte: u8) -> Rule
+    ensures { λ r. ⌜ r ≡ sizeRule («count_byte» / 128 % 2) ⌝ }
+{
+    if count_byte / 128 % 2 == 0 {
+        return Rule::R6;
+    }
+    Rule::R7
+}
+
 // The packet of frames that were read at a place.
 fn packet_at(toc: u8, count: usize, at: usize, pad: usize, f: FramesAt) -> PacketHead
     requires { ⌜ at + endOf f + pad < 2 ^ 32 ⌝ }
     ensures { λ r. ⌜ r ≡ headAt toc count at pad f ⌝ }
 {
-    let FramesAt::At(offset, total) = f else {
-        return no_head(Refusal::InvalidPacket);
-    };
-    let first = at + offset;
-    PacketHead {
-        verdict: Verdict::Accepted,
-        toc,
-        count,
-        first,
-        taken: first + total + pad,
+    match f {
+        FramesAt::Broken(rule) => broken_head(rule),
+        FramesAt::At(offset, total) => {
+            let first = at + offset;
+            PacketHead {
+                verdict: Verdict::Accepted,
+                toc,
+                count,
+                first,
+                taken: first + total + pad,
+            }
+        }
     }
 }
 
@@ -108,7 +129,7 @@ fn read_body(data: &[u8], count: usize, self_delimited: bool, lengths: &mut [u16
     let tail = &data[2..];
     let padding = read_padding(tail, count_byte);
     let PaddingAt::Whole(pad, next) = padding else {
-        return no_head(Refusal::InvalidPacket);
+        return broken_head(size_rule(count_byte));
     };
     let at = 2 + next;
     let end = data.len() - pad;
@@ -124,15 +145,15 @@ fn read_3(data: &[u8], self_delimited: bool, lengths: &mut [u16; 48]) -> PacketH
         ≡ packetOf (read3 «self_delimited» (length (now («data» .entry))) (getD (now («data» .entry)) 0 0) (drop 1 (now («data» .entry)))) ⌝ }
 {
     if data.len() < 2 {
-        return no_head(Refusal::InvalidPacket);
+        return broken_head(Rule::R5);
     }
     let count = data[1] % 64;
     if count == 0 {
-        return no_head(Refusal::InvalidPacket);
+        return broken_head(Rule::R5);
     }
     let each = opus_toc::samples_48k(data[0]);
     if !each.fits(count as u16) {
-        return no_head(Refusal::InvalidPacket);
+        return broken_head(Rule::R5);
     }
     read_body(data, count as usize, self_delimited, lengths)
 }
@@ -147,9 +168,21 @@ fn read_packet(data: &[u8], self_delimited: bool, lengths: &mut [u16; 48]) -> Pa
     let code = toc % 4;
     let body = &data[1..];
     match code {
-        0 => behind_toc(toc, 1, unequal_frames(body, 0, self_delimited, lengths)),
-        1 => behind_toc(toc, 2, equal_frames(body, 2, self_delimited, lengths)),
-        2 => behind_toc(toc, 2, unequal_frames(body, 1, self_delimited, lengths)),
+        0 => behind_toc(
+            toc,
+            1,
+            unequal_frames(body, 0, Rule::R2, self_delimited, lengths),
+        ),
+        1 => behind_toc(
+            toc,
+            2,
+            equal_frames(body, 2, Rule::R3, self_delimited, lengths),
+        ),
+        2 => behind_toc(
+            toc,
+            2,
+            unequal_frames(body, 1, Rule::R4, self_delimited, lengths),
+        ),
         _ => read_3(data, self_delimited, lengths),
     }
 }
@@ -158,7 +191,7 @@ fn read_packet(data: &[u8], self_delimited: bool, lengths: &mut [u16; 48]) -> Pa
 pub enum Short {
     One(u16, usize),
     Two(u16, u16, usize),
-    Broken,
+    Broken(Rule),
     Counted,
 }
 
@@ -169,7 +202,7 @@ fn one_frame(data: &[u8]) -> Short
 {
     let rest = data.len() - 1;
     if opus_size::MOST_BYTES < rest {
-        return Short::Broken;
+        return Short::Broken(Rule::R2);
     }
     Short::One(rest as u16, 1)
 }
@@ -181,11 +214,11 @@ fn two_equal(data: &[u8]) -> Short
 {
     let rest = data.len() - 1;
     if rest % 2 != 0 {
-        return Short::Broken;
+        return Short::Broken(Rule::R3);
     }
     let each = rest / 2;
     if opus_size::MOST_BYTES < each {
-        return Short::Broken;
+        return Short::Broken(Rule::R2);
     }
     Short::Two(each as u16, each as u16, 1)
 }
@@ -197,16 +230,16 @@ fn two_unequal(data: &[u8]) -> Short
 {
     let size = opus_size::size_at(data, 1);
     let SizeAt::Whole(n, first) = size else {
-        return Short::Broken;
+        return Short::Broken(Rule::R4);
     };
     let left = data.len() - first;
     let one = wide(n);
     if left < one {
-        return Short::Broken;
+        return Short::Broken(Rule::R4);
     }
     let last = left - one;
     if opus_size::MOST_BYTES < last {
-        return Short::Broken;
+        return Short::Broken(Rule::R2);
     }
     Short::Two(n, last as u16, first)
 }
@@ -216,7 +249,7 @@ pub fn short_at(data: &[u8]) -> Short
     ensures { λ r. ⌜ r ≡ shortAt (now («data» .entry)) ⌝ }
 {
     if data.len() == 0 {
-        return Short::Broken;
+        return Short::Broken(Rule::R1);
     }
     let c = data[0] % 4;
     match c {
@@ -237,7 +270,7 @@ pub fn read_into(data: &[u8], self_delimited: bool, lengths: &mut [u16; 48]) -> 
         return no_head(Refusal::BadArg);
     }
     if data.len() == 0 {
-        return no_head(Refusal::InvalidPacket);
+        return broken_head(Rule::R1);
     }
     read_packet(data, self_delimited, lengths)
 }

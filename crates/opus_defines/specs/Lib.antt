@@ -1,2 +1,4 @@
+pub mod Bounds
 pub mod Numbers
+pub mod Rules
 pub mod Outcome

@@ -1,4 +1,4 @@
--- What a call that writes into a lent buffer leaves: its number, and every byte of the buffer.
+-- What a call that writes into a lent buffer does, and what it leaves there: its number, and every byte of the buffer.
 use Prim.Native.Nat.{ℕ}
 use mathlib.Core.List.{List}
 use lib.IntN.{ℤ, pos}
@@ -7,14 +7,26 @@ use lib.Seq.{sets}
 use Rattle.opus_defines.specs.Numbers.{refusalNumber}
 use Rattle.opus_defines.specs.declared.Refusal.{Refusal}
 
+-- it refuses, or it answers a number and puts bytes at the front
+pub data Effect : Type 0 where
+  refusal : Refusal → Effect
+  wrote : ℕ → List ℕ → Effect
+
+-- the bytes vs, and their count is answered
+abbrev pub written : List ℕ → Effect
+written vs = wrote (length vs) vs
+
 pub record Outcome : Type 0 where
   pub number : ℤ
   pub bytes : List ℕ
 
--- a refusal leaves every byte as it was
-abbrev pub refuses : Refusal → List ℕ → Outcome
-refuses e s = record { number = refusalNumber e; bytes = s }
+-- a refusal leaves every byte of the buffer s as it was; what is past the bytes that were written is as it was
+abbrev pub leaves : List ℕ → Effect → Outcome
+leaves s (refusal e) = record { number = refusalNumber e; bytes = s }
+leaves s (wrote n vs) = record { number = pos n; bytes = sets s 0 vs }
 
--- the bytes vs stand from place 0 on and their count is answered; what is past them is as it was
+abbrev pub refuses : Refusal → List ℕ → Outcome
+refuses e s = leaves s (refusal e)
+
 abbrev pub writes : List ℕ → List ℕ → Outcome
-writes vs s = record { number = pos (length vs); bytes = sets s 0 vs }
+writes vs s = leaves s (written vs)

@@ -4,6 +4,7 @@ ghost use mathlib.Core.Path.{_≡_};
 ghost use Prim.Native.Nat.{ℕ, _<_, _^_};
 ghost use lib.IntN.{pos};
 ghost use Rattle.opus_defines.specs.Numbers.{refusalNumber, numberOf, verdictNumber, countOf};
+ghost use Rattle.opus_defines.specs.Rules.{ruleRefusal};
 
 // Added, padded, nothing to pad.
 pub const OPUS_OK: u16 = 0;
@@ -14,6 +15,25 @@ pub enum Refusal {
     BufferTooSmall,
     InvalidPacket,
     InvalidState,
+}
+
+// The rules of RFC 6716, section 3.4, that a packet can break: R1 to R7, and R8 for a bad last length in the self-delimited form.
+pub enum Rule {
+    R1,
+    R2,
+    R3,
+    R4,
+    R5,
+    R6,
+    R7,
+    R8,
+}
+
+// The refusal of a packet that breaks a rule.
+pub fn rule_refusal(rule: Rule) -> Refusal
+    ensures { λ r. ⌜ r ≡ ruleRefusal rule ⌝ }
+{
+    Refusal::InvalidPacket
 }
 
 // What an answer that is a record says beside its values.

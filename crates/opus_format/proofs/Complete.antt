@@ -17,7 +17,8 @@ use Rattle.opus_toc.specs.Toc.{upperSix, tocByte}
 use Rattle.opus_format.specs.Frames.{lengths, joined, cut, total, longest}
 use Rattle.opus_format.specs.Format.{countByte, Lasts, Padding, ownLength, Spells, Behind}
 use Rattle.opus_format.specs.Format.{Layout, code0, code1, code2, code3equal, code3unequal}
-use Rattle.opus_format.specs.Reading.{R2, R3, R4, R6, R7, Front, front, frames3, accepted, accept, readCode, read, framesOf}
+use Rattle.opus_defines.specs.declared.Rule.the-variants.{R2, R3, R4, R6, R7}
+use Rattle.opus_format.specs.Reading.{Front, front, frames3, accepted, accept, readCode, read, framesOf}
 use Rattle.opus_format.proofs.Frames.{cut-joined, total-lengths, longest-same}
 use Rattle.opus_format.proofs.Padding.{padding-read, padding-flag}
 use Rattle.opus_format.proofs.Fronts.{Holds, unequal-read, behind-read, equal-read}

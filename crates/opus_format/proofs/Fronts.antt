@@ -20,7 +20,9 @@ use Rattle.opus_size.specs.Size.{mostBytes, lengthField, lengthFields, readFiel
 use Rattle.opus_size.proofs.Fields.{field-read, field-was}
 use Rattle.opus_format.specs.Frames.{total, longest}
 use Rattle.opus_format.specs.Format.{ownLength}
-use Rattle.opus_format.specs.Reading.{Rule, R2, R8, broken, front, ownLast, lastLength, unequal, ownEqual, equal}
+use Rattle.opus_defines.specs.declared.Rule.{Rule}
+use Rattle.opus_defines.specs.declared.Rule.the-variants.{R2, R8}
+use Rattle.opus_format.specs.Reading.{broken, front, ownLast, lastLength, unequal, ownEqual, equal}
 use Rattle.opus_format.specs.Reading.{Fields, noFields, fields, readFields, behindFields}
 use Rattle.opus_format.proofs.Frames.{total-snoc, longest-snoc, total-same}
 use Rattle.opus_format.proofs.Fields.{fields-read, fields-was}

@@ -21,7 +21,8 @@ use Rattle.opus_toc.specs.Toc.{upperSix, tocByte}
 use Rattle.opus_format.specs.Frames.{lengths, cut, total, longest}
 use Rattle.opus_format.specs.Format.{countByte, Lasts, Padding, ownLength, Spells, Behind}
 use Rattle.opus_format.specs.Format.{Layout, code0, code1, code2, code3equal, code3unequal}
-use Rattle.opus_format.specs.Reading.{R2, R3, R4, R6, R7, Front, broken, front, unequal, readFields, behindFields, equal, readPadding}
+use Rattle.opus_defines.specs.declared.Rule.the-variants.{R2, R3, R4, R6, R7}
+use Rattle.opus_format.specs.Reading.{Front, broken, front, unequal, readFields, behindFields, equal, readPadding}
 use Rattle.opus_format.specs.Reading.{frames3, lasts, accepted, accept, behindPadding, read3, readCode, read}
 use Rattle.opus_format.proofs.Frames.{joined-cut, lengths-cut, longest-same}
 use Rattle.opus_format.proofs.Padding.{padding-was}

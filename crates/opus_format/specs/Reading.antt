@@ -5,13 +5,11 @@ use mathlib.Core.List.{List, [], _∷_, _++_}
 use mathlib.Core.Bool.{Bool, true, false, cond, _&&_}
 use lib.Dec.{ltb, leb, eqb}
 use lib.ListN.{length, take, drop, replicate}
+use Rattle.opus_defines.specs.declared.Rule.{Rule}
+use Rattle.opus_defines.specs.declared.Rule.the-variants.{R1, R2, R3, R4, R5, R6, R7, R8}
 use Rattle.opus_size.specs.Size.{mostBytes, Field, noField, field, readField}
 use Rattle.opus_toc.specs.Toc.{code, upperSix, duration}
 use Rattle.opus_format.specs.Frames.{total, cut}
-
--- the rules R1 to R7, and R8 for a bad last length in the self-delimited form
-pub data Rule : Type 0 where
-  R1 R2 R3 R4 R5 R6 R7 R8 : Rule
 
 -- the lengths of all frames and the bytes from the first frame on
 pub data Front : Type 0 where

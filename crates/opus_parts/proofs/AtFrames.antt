@@ -18,7 +18,9 @@ use Rattle.laws.proofs.Never.{cond-elim}
 use Rattle.opus_size.specs.Size.{mostBytes, Field, readField, noField, field}
 use Rattle.opus_size.proofs.At.{Read, nothing, something, read-at, Found}
 use Rattle.opus_format.specs.Frames.{total}
-use Rattle.opus_format.specs.Reading.{Rule, R6, R7, Front, broken, front, ownLast, lastLength, Fields, readFields, behindFields, ownEqual, equal, frames3}
+use Rattle.opus_defines.specs.declared.Rule.{Rule}
+use Rattle.opus_defines.specs.declared.Rule.the-variants.{R2, R6, R7, R8}
+use Rattle.opus_format.specs.Reading.{Front, broken, front, ownLast, lastLength, Fields, readFields, behindFields, ownEqual, equal, frames3}
 use Rattle.opus_format.specs.Frames.{padded48}
 use Rattle.opus_parts.specs.Parts.{sizesAt, SizesRead, FramesRead}
 use Rattle.opus_parts.specs.declared.sizes_at.SizesAt.the-variants.{All, Cut}
@@ -41,8 +43,11 @@ equal-at : (s lengths : List ℕ) (count n next sum : ℕ) → lengths ≡ padde
 equal-at s lengths count n next sum f h t = (rw (place-is s next h, total-same count n, t), f)
 
 -- ---- unequal lengths
-module _ (s : List ℕ) (k : ℕ) where
-  pub frames-cut : (sd : Bool) → Cut ≡ sizesAt (length s) (readFields k s) → (l : List ℕ) → FramesRead s (behindFields sd R7 (readFields k s)) Broken l
+pub sizes-inside : (s : List ℕ) (k next sum : ℕ) (lengths : List ℕ) → SizesRead s (readFields k s) (All next sum) lengths → next ≤ length s
+sizes-inside s k next sum lengths e = known s k next sum lengths e .inside
+
+module _ (s : List ℕ) (k : ℕ) (r : Rule) where
+  pub frames-cut : (sd : Bool) → Cut ≡ sizesAt (length s) (readFields k s) → (l : List ℕ) → FramesRead s (behindFields sd r (readFields k s)) (Broken r) l
   frames-cut sd e l = rw (none-known s k e) (refl, tt)
 
   module _ (next sum : ℕ) (lengths : List ℕ) (e : SizesRead s (readFields k s) (All next sum) lengths) where
@@ -52,72 +57,69 @@ module _ (s : List ℕ) (k : ℕ) where
     left : length (drop next s) ≡ length s - next
     left = length-drop next s
 
-    pub sizes-inside : next ≤ length s
-    sizes-inside = all .inside
-
-    pub frames-over : (sd : Bool) → length s - next < sum → (l : List ℕ) → FramesRead s (behindFields sd R7 (readFields k s)) Broken l
+    pub frames-over : (sd : Bool) → length s - next < sum → (l : List ℕ) → FramesRead s (behindFields sd r (readFields k s)) (Broken r) l
     frames-over sd h l = rw (all .means, left, ← all .summed, lt-ltb _ _ h) (refl, tt)
 
     module _ (h : sum ≤ length s - next) where
-      means : (sd : Bool) → behindFields sd R7 (readFields k s) ≡ lastLength sd (all .ns) (drop next s)
+      means : (sd : Bool) → behindFields sd r (readFields k s) ≡ lastLength sd (all .ns) (drop next s)
       means sd =
           let enough : ltb (length (drop next s)) (total (all .ns)) ≡ false = le-ltb (length (drop next s)) (total (all .ns)) (omega (arith, left, all .summed)) in
           rw (all .means, enough)
 
-      pub rest-long : mostBytes < length s - next - sum → (l : List ℕ) → FramesRead s (behindFields false R7 (readFields k s)) Broken l
+      pub rest-long : mostBytes < length s - next - sum → (l : List ℕ) → FramesRead s (behindFields false r (readFields k s)) (Broken R2) l
       rest-long m l = rw (means false, left, ← all .summed, lt-ltb _ _ m) (refl, tt)
 
       pub rest-read : k < 48 → length s - next - sum ≤ mostBytes
-          → FramesRead s (behindFields false R7 (readFields k s)) (At next (length s - next)) (set lengths k (length s - next - sum))
+          → FramesRead s (behindFields false r (readFields k s)) (At next (length s - next)) (set lengths k (length s - next - sum))
       rest-read b m =
           let n = length s - next - sum in
-          let last : behindFields false R7 (readFields k s) ≡ front (all .ns ++ (n ∷ [])) (drop next s) = rw (means false, left, ← all .summed, le-ltb _ _ m) in
+          let last : behindFields false r (readFields k s) ≡ front (all .ns ++ (n ∷ [])) (drop next s) = rw (means false, left, ← all .summed, le-ltb _ _ m) in
           rw last (unequal-at s (all .ns) lengths n k next _ (all .count) b (all .inside) (all .filled) (omega (arith, all .summed)))
 
-      pub own-short : readField (drop next s) ≡ noField → (l : List ℕ) → FramesRead s (behindFields true R7 (readFields k s)) Broken l
-      own-short r l = rw (means true, r) (refl, tt)
+      pub own-short : readField (drop next s) ≡ noField → (l : List ℕ) → FramesRead s (behindFields true r (readFields k s)) (Broken R8) l
+      own-short e l = rw (means true, e) (refl, tt)
 
       module _ (n first wide : ℕ) (g : Found s next n first) (q : wide ≡ n) where
-        pub own-over : length s - first < sum + wide → (l : List ℕ) → FramesRead s (behindFields true R7 (readFields k s)) Broken l
+        pub own-over : length s - first < sum + wide → (l : List ℕ) → FramesRead s (behindFields true r (readFields k s)) (Broken R8) l
         own-over m l =
             let less : ltb (length (drop first s)) (total (all .ns) + n) ≡ true = lt-ltb (length (drop first s)) (total (all .ns) + n) (omega (arith, length-drop first s, all .summed)) in
             rw (means true, g .means, less) (refl, tt)
 
-        pub own-read : k < 48 → sum + wide ≤ length s - first → FramesRead s (behindFields true R7 (readFields k s)) (At first (sum + wide)) (set lengths k n)
+        pub own-read : k < 48 → sum + wide ≤ length s - first → FramesRead s (behindFields true r (readFields k s)) (At first (sum + wide)) (set lengths k n)
         own-read b m =
             let enough : ltb (length (drop first s)) (total (all .ns) + n) ≡ false = le-ltb (length (drop first s)) (total (all .ns) + n) (omega (arith, length-drop first s, all .summed)) in
             rw (means true, g .means, enough) (unequal-at s (all .ns) lengths n k first _ (all .count) b (g .within) (all .filled) (omega (arith, all .summed)))
 
 -- ---- equal lengths
-module _ (s : List ℕ) (count : ℕ) where
-  pub shared-uneven : (length s % count ≡ 0 → ⊥) → (l : List ℕ) → FramesRead s (equal false R6 count s) Broken l
+module _ (s : List ℕ) (count : ℕ) (r : Rule) where
+  pub shared-uneven : (length s % count ≡ 0 → ⊥) → (l : List ℕ) → FramesRead s (equal false r count s) (Broken r) l
   shared-uneven n l = rw (ne-eqb _ _ n) (refl, tt)
 
   module _ (z : length s % count ≡ 0) where
-    pub shared-long : mostBytes < length s / count → (l : List ℕ) → FramesRead s (equal false R6 count s) Broken l
+    pub shared-long : mostBytes < length s / count → (l : List ℕ) → FramesRead s (equal false r count s) (Broken R2) l
     shared-long h l = rw (eq-eqb _ _ z, lt-ltb _ _ h) (refl, tt)
 
     pub shared-read : (lengths : List ℕ) → lengths ≡ padded48 (replicate count (length s / count)) → length s / count ≤ mostBytes
-        → FramesRead s (equal false R6 count s) (At 0 (length s)) lengths
+        → FramesRead s (equal false r count s) (At 0 (length s)) lengths
     shared-read lengths f h =
         let all : length s ≡ count * (length s / count) = omega (arith, div-add-mod (length s) count) in
-        let each : equal false R6 count s ≡ front (replicate count (length s / count)) s = rw (eq-eqb _ _ z, le-ltb _ _ h) in
+        let each : equal false r count s ≡ front (replicate count (length s / count)) s = rw (eq-eqb _ _ z, le-ltb _ _ h) in
         rw each (equal-at s lengths count (length s / count) 0 (length s) f (omega arith) all)
 
-  pub each-short : readField s ≡ noField → (l : List ℕ) → FramesRead s (equal true R6 count s) Broken l
-  each-short r l = rw r (refl, tt)
+  pub each-short : readField s ≡ noField → (l : List ℕ) → FramesRead s (equal true r count s) (Broken R8) l
+  each-short e l = rw e (refl, tt)
 
   module _ (n first wide : ℕ) (g : Found s 0 n first) (q : wide ≡ n) where
     product : count * wide ≡ count * n
     product = ap (λ (x : ℕ). count * x) q
 
-    pub each-over : length s - first < count * wide → (l : List ℕ) → FramesRead s (equal true R6 count s) Broken l
+    pub each-over : length s - first < count * wide → (l : List ℕ) → FramesRead s (equal true r count s) (Broken R8) l
     each-over h l =
         let less : ltb (length (drop first s)) (count * n) ≡ true = lt-ltb (length (drop first s)) (count * n) (omega (arith, length-drop first s, product)) in
         rw (g .means, less) (refl, tt)
 
     pub each-read : (lengths : List ℕ) → lengths ≡ padded48 (replicate count n) → count * wide ≤ length s - first
-        → FramesRead s (equal true R6 count s) (At first (count * wide)) lengths
+        → FramesRead s (equal true r count s) (At first (count * wide)) lengths
     each-read lengths f h =
         let enough : ltb (length (drop first s)) (count * n) ≡ false = le-ltb (length (drop first s)) (count * n) (omega (arith, length-drop first s, product)) in
         rw (g .means, enough) (equal-at s lengths count n first (count * wide) f (g .within) product)

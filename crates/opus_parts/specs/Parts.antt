@@ -32,7 +32,7 @@ SizesRead s r f l = (f ≡ sizesAt (length s) r) × (sizesLent r l)
 
 -- ---- frames
 abbrev pub framesAt : ℕ → Front → FramesAt
-framesAt m (broken rule) = Broken
+framesAt m (broken rule) = Broken rule
 framesAt m (front ns t) = At (m - length t) (total ns)
 
 abbrev pub framesLent : Front → List ℕ → Type 0
@@ -44,7 +44,7 @@ FramesRead s r f l = (f ≡ framesAt (length s) r) × (framesLent r l)
 
 -- the place behind the frames
 abbrev pub endOf : FramesAt → ℕ
-endOf Broken = 0
+endOf (Broken rule) = 0
 endOf (At first sum) = first + sum
 
 -- ---- padding: if it does not fit, it is refused with the chain

@@ -4,31 +4,32 @@ ghost use mathlib.Core.Bool.{true, false};
 ghost use mathlib.Core.List.{[]};
 ghost use Prim.Native.Nat.{_-_, _/_, _%_, _<_, _≤_};
 ghost use lib.ListN.{length};
-ghost use Rattle.opus_format.specs.Reading.{R6, R7, readFields, behindFields, equal, frames3};
+ghost use Rattle.opus_format.specs.Reading.{readFields, behindFields, equal, frames3};
 ghost use Rattle.opus_format.specs.Frames.{padded48};
 ghost use Rattle.opus_parts.specs.Parts.{SizesRead, FramesRead};
 use crate::sizes_at::SizesAt;
 use crate::sizes_at::read_sizes;
 use crate::sizes_at::same_lengths;
 use crate::sizes_at::wide;
+use opus_defines::Rule;
 use opus_size::SizeAt;
 
-// The first frame's place in the slice and the sum of the lengths, or that there are no such frames.
+// The first frame's place in the slice and the sum of the lengths, or the rule that is broken.
 pub enum FramesAt {
     At(usize, usize),
-    Broken,
+    Broken(Rule),
 }
 
 // The last of k + 1 frames of unequal lengths takes the rest of the slice; the lengths of the others were read up to `next`.
 fn rest_last(s: &[u8], next: usize, sum: usize, k: usize, lengths: &mut [u16; 48]) -> FramesAt
     requires read { ⌜ SizesRead (now s) (readFields k (now s)) (SizesAt.All next sum) (now lengths) ⌝ }
     requires enough { ⌜ (k < 48) × (sum ≤ length (now s) - next) ⌝ }
-    ensures { λ r. ⌜ FramesRead (now (s .entry)) (behindFields false R7 (readFields k (now (s .entry)))) r (now (lengths .exit)) ⌝ }
+    ensures { λ f. ⌜ ((r : Rule) → FramesRead (now (s .entry)) (behindFields false r (readFields k (now (s .entry)))) f (now (lengths .exit))) ⌝ }
 {
     let left = s.len() - next;
     let last = left - sum;
     if opus_size::MOST_BYTES < last {
-        return FramesAt::Broken;
+        return FramesAt::Broken(Rule::R2);
     }
     lengths[k] = last as u16;
     FramesAt::At(next, left)
@@ -38,31 +39,37 @@ fn rest_last(s: &[u8], next: usize, sum: usize, k: usize, lengths: &mut [u16; 48
 fn own_last(s: &[u8], next: usize, sum: usize, k: usize, lengths: &mut [u16; 48]) -> FramesAt
     requires read { ⌜ SizesRead (now s) (readFields k (now s)) (SizesAt.All next sum) (now lengths) ⌝ }
     requires enough { ⌜ (k < 48) × (sum ≤ length (now s) - next) ⌝ }
-    ensures { λ r. ⌜ FramesRead (now (s .entry)) (behindFields true R7 (readFields k (now (s .entry)))) r (now (lengths .exit)) ⌝ }
+    ensures { λ f. ⌜ ((r : Rule) → FramesRead (now (s .entry)) (behindFields true r (readFields k (now (s .entry)))) f (now (lengths .exit))) ⌝ }
 {
     let size = opus_size::size_at(s, next);
     let SizeAt::Whole(last, first) = size else {
-        return FramesAt::Broken;
+        return FramesAt::Broken(Rule::R8);
     };
     let total = sum + wide(last);
     if s.len() - first < total {
-        return FramesAt::Broken;
+        return FramesAt::Broken(Rule::R8);
     }
     lengths[k] = last;
     FramesAt::At(first, total)
 }
 
-// Frames of unequal lengths: k length fields, and one frame more (codes 0 and 2, and code 3 with its flag).
-pub fn unequal_frames(s: &[u8], k: usize, self_delimited: bool, lengths: &mut [u16; 48]) -> FramesAt
+// Frames of unequal lengths: k length fields, and one frame more (codes 0 and 2, and code 3 with its flag, each with its rule).
+pub fn unequal_frames(
+    s: &[u8],
+    k: usize,
+    rule: Rule,
+    self_delimited: bool,
+    lengths: &mut [u16; 48],
+) -> FramesAt
     requires { ⌜ (k < 48) × (now lengths ≡ padded48 []) ⌝ }
-    ensures { λ r. ⌜ FramesRead (now (s .entry)) (behindFields «self_delimited» R7 (readFields k (now (s .entry)))) r (now (lengths .exit)) ⌝ }
+    ensures { λ r. ⌜ FramesRead (now (s .entry)) (behindFields «self_delimited» rule (readFields k (now (s .entry)))) r (now (lengths .exit)) ⌝ }
 {
     let f = read_sizes(s, k, lengths);
     let SizesAt::All(next, sum) = f else {
-        return FramesAt::Broken;
+        return FramesAt::Broken(rule);
     };
     if s.len() - next < sum {
-        return FramesAt::Broken;
+        return FramesAt::Broken(rule);
     }
     if self_delimited {
         own_last(s, next, sum, k, lengths)
@@ -72,17 +79,17 @@ pub fn unequal_frames(s: &[u8], k: usize, self_delimited: bool, lengths: &mut [u
 }
 
 // Frames of equal lengths that share the whole slice.
-fn shared_equal(s: &[u8], count: usize, lengths: &mut [u16; 48]) -> FramesAt
+fn shared_equal(s: &[u8], count: usize, rule: Rule, lengths: &mut [u16; 48]) -> FramesAt
     requires { ⌜ (1 ≤ count) × (count ≤ 48) × (now lengths ≡ padded48 []) ⌝ }
-    ensures { λ r. ⌜ FramesRead (now (s .entry)) (equal false R6 count (now (s .entry))) r (now (lengths .exit)) ⌝ }
+    ensures { λ r. ⌜ FramesRead (now (s .entry)) (equal false rule count (now (s .entry))) r (now (lengths .exit)) ⌝ }
 {
     let len = s.len();
     if len % count != 0 {
-        return FramesAt::Broken;
+        return FramesAt::Broken(rule);
     }
     let each = len / count;
     if opus_size::MOST_BYTES < each {
-        return FramesAt::Broken;
+        return FramesAt::Broken(Rule::R2);
     }
     same_lengths(count, each as u16, lengths);
     FramesAt::At(0, len)
@@ -91,34 +98,35 @@ fn shared_equal(s: &[u8], count: usize, lengths: &mut [u16; 48]) -> FramesAt
 // Frames of equal lengths behind a field that says their length.
 fn own_equal(s: &[u8], count: usize, lengths: &mut [u16; 48]) -> FramesAt
     requires { ⌜ (1 ≤ count) × (count ≤ 48) × (now lengths ≡ padded48 []) ⌝ }
-    ensures { λ r. ⌜ FramesRead (now (s .entry)) (equal true R6 count (now (s .entry))) r (now (lengths .exit)) ⌝ }
+    ensures { λ f. ⌜ ((r : Rule) → FramesRead (now (s .entry)) (equal true r count (now (s .entry))) f (now (lengths .exit))) ⌝ }
 {
     let size = opus_size::size_at(s, 0);
     let SizeAt::Whole(each, first) = size else {
-        return FramesAt::Broken;
+        return FramesAt::Broken(Rule::R8);
     };
     let total = count * wide(each);
     if s.len() - first < total {
-        return FramesAt::Broken;
+        return FramesAt::Broken(Rule::R8);
     }
     same_lengths(count, each, lengths);
     FramesAt::At(first, total)
 }
 
-// Frames of equal lengths (code 1, and code 3 without its flag).
+// Frames of equal lengths (code 1, and code 3 without its flag, each with its rule).
 pub fn equal_frames(
     s: &[u8],
     count: usize,
+    rule: Rule,
     self_delimited: bool,
     lengths: &mut [u16; 48],
 ) -> FramesAt
     requires { ⌜ (1 ≤ count) × (count ≤ 48) × (now lengths ≡ padded48 []) ⌝ }
-    ensures { λ r. ⌜ FramesRead (now (s .entry)) (equal «self_delimited» R6 count (now (s .entry))) r (now (lengths .exit)) ⌝ }
+    ensures { λ r. ⌜ FramesRead (now (s .entry)) (equal «self_delimited» rule count (now (s .entry))) r (now (lengths .exit)) ⌝ }
 {
     if self_delimited {
         own_equal(s, count, lengths)
     } else {
-        shared_equal(s, count, lengths)
+        shared_equal(s, count, rule, lengths)
     }
 }
 
@@ -134,7 +142,7 @@ pub fn frames_3(
     ensures { λ r. ⌜ FramesRead (now (s .entry)) (frames3 «self_delimited» («count_byte» / 128 % 2) count (now (s .entry))) r (now (lengths .exit)) ⌝ }
 {
     if count_byte / 128 % 2 == 0 {
-        return equal_frames(s, count, self_delimited, lengths);
+        return equal_frames(s, count, Rule::R6, self_delimited, lengths);
     }
-    unequal_frames(s, count - 1, self_delimited, lengths)
+    unequal_frames(s, count - 1, Rule::R7, self_delimited, lengths)
 }

@@ -6,7 +6,7 @@ use lib.Dec.{ltb}
 use lib.IntN.{ℤ, pos, negsuc}
 use lib.ListN.{length, drop}
 use Rattle.opus_defines.specs.Numbers.{verdictNumber}
-use Rattle.opus_defines.specs.Outcome.{Outcome, refuses, writes}
+use Rattle.opus_defines.specs.Outcome.{Effect, refusal, written, Outcome, leaves}
 use Rattle.opus_defines.specs.declared.Refusal.the-variants.{BadArg, BufferTooSmall}
 use Rattle.opus_defines.specs.declared.Verdict.the-variants.{Accepted, Refused}
 use Rattle.opus_size.specs.Size.{mostBytes, lengthField, Field, noField, field, readField}
@@ -15,12 +15,15 @@ use Rattle.opus_size.specs.declared.SizeAt.{SizeAt}
 use Rattle.opus_size.specs.declared.SizeAt.the-variants.{Whole, Short}
 
 -- `encode_size`: the size is tested before the room
+abbrev pub encodes : ℤ → ℕ → Effect
+encodes (negsuc n) room = refusal BadArg
+encodes (pos n) room =
+    cond (ltb mostBytes n) (refusal BadArg)
+    (cond (ltb room (length (lengthField n))) (refusal BufferTooSmall)
+    (written (lengthField n)))
+
 unfoldable pub encodeSize : ℤ → List ℕ → Outcome
-encodeSize (negsuc n) s = refuses BadArg s
-encodeSize (pos n) s =
-    cond (ltb mostBytes n) (refuses BadArg s)
-    (cond (ltb (length s) (length (lengthField n))) (refuses BufferTooSmall s)
-    (writes (lengthField n) s))
+encodeSize x s = leaves s (encodes x (length s))
 
 -- `parse_size`: the bytes used and the size; all zeros beside a refusal
 abbrev pub sizeOf : List ℕ → Field → Size

@@ -1,6 +1,6 @@
+pub mod Given
 pub mod Framed
 pub mod Rewritten
 pub mod Calls
 pub mod Spelled
-pub mod Kept
 pub mod Promises

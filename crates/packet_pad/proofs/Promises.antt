@@ -11,6 +11,7 @@ use lib.Seq.{length-take-le}
 use Rattle.laws.specs.Bytes.{Bytes}
 use Rattle.laws.proofs.Bytes.{bytes-take}
 use Rattle.opus_defines.specs.Outcome.{writes}
+use Rattle.opus_defines.proofs.Outcomes.{refusal-keeps}
 use Rattle.opus_toc.specs.Toc.{upperSix}
 use Rattle.opus_format.specs.Frames.{cut}
 use Rattle.opus_format.specs.Format.{Spells}
@@ -18,10 +19,10 @@ use Rattle.opus_format.specs.Reading.{accepted, read, framesOf}
 use Rattle.opus_header.specs.Compact.{compact, filling}
 use Rattle.opus_header.proofs.Filling.{filling-length}
 use Rattle.opus_header.proofs.Rebuilt.{spelled-some, compact-of, never-longer}
-use Rattle.packet_pad.specs.Pad.{padsTo, padded}
-use Rattle.packet_pad.specs.Unpad.{unpadded}
+use Rattle.packet_pad.specs.Lengths.{lengthOf, lengthsOf, bounded, byLengths}
+use Rattle.packet_pad.specs.Pad.{padsTo, padPacket, padded}
+use Rattle.packet_pad.specs.Unpad.{unpadPacket, unpadded}
 use Rattle.packet_pad.proofs.Spelled.{read-whole, reads-back, filling-of, pad-spelled, unpad-spelled, unpad-written}
-use Rattle.packet_pad.proofs.Kept.{kept-by-pad, kept-by-unpad}
 
 -- a packet that the reader accepts, in the first len bytes of a buffer
 module _ (s : List ℕ) (bytes : Bytes s) (len : ℕ) (fits : len ≤ length s) (most : len ≤ 65535) (toc : ℕ) (ns : List ℕ) (first taken : ℕ) (r : read false (take len s) ≡ accepted toc ns first taken) where
@@ -64,7 +65,9 @@ module _ (s : List ℕ) (bytes : Bytes s) (len : ℕ) (fits : len ≤ length s) 
 
 -- 7. A refusal leaves every byte.
 pub refused-pad-changes-nothing : (s : List ℕ) (len new : ℤ) (n : ℕ) → padded s len new .number ≡ negsuc n → padded s len new .bytes ≡ s
-refused-pad-changes-nothing s len new n e = kept-by-pad s n len new e
+unfolding padded
+refused-pad-changes-nothing s len new n e = refusal-keeps s (byLengths (λ n m. padPacket (take n s) m) (lengthsOf s len new)) n e
 
 pub refused-unpad-changes-nothing : (s : List ℕ) (len : ℤ) (n : ℕ) → unpadded s len .number ≡ negsuc n → unpadded s len .bytes ≡ s
-refused-unpad-changes-nothing s len n e = kept-by-unpad s n len e
+unfolding unpadded
+refused-unpad-changes-nothing s len n e = refusal-keeps s (bounded (λ n. unpadPacket (take n s)) (lengthOf s len)) n e

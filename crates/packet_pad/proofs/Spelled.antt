@@ -2,21 +2,21 @@
 --     read-whole                      what the ordinary reader accepts is spelled, whole
 --     reads-back                      what is spelled reads as its frames and upper six TOC bits
 --     filling-of                      the padded packet of its frames is spelled too
---     pad-spelled, unpad-spelled      pad and unpad write those packets
+--     pads, unpads                    pad and unpad write those packets,
+--     pad-spelled, unpad-spelled      in the first bytes of a buffer too
 --     unpad-written                   and so does unpad of a packet that was written into the buffer
 -- Assumes nothing.
 use Prim.Native.Nat.{ℕ, _≤_, _<_}
 use native.Mathlib.Omega.{arith}
-use mathlib.Core.Path.{_≡_, refl, _∙_}
+use mathlib.Core.Path.{_≡_, refl, ap, _∙_}
 use mathlib.Core.List.{List, [], append-nil}
 use mathlib.Core.Bool.{Bool, true, false}
 use lib.IntN.{pos}
 use lib.ListN.{length, getD, take, drop}
 use lib.Seq.{sets, length-take-le, take-all, length-sets}
-use borrow.Author.Tests.{le-ltb}
 use Rattle.laws.specs.Bytes.{Bytes}
 use Rattle.blocks.proofs.Sets.{take-sets}
-use Rattle.opus_defines.specs.Outcome.{writes}
+use Rattle.opus_defines.specs.Outcome.{wrote, written, leaves, writes}
 use Rattle.opus_toc.specs.Toc.{upperSix}
 use Rattle.opus_format.specs.Frames.{lengths, cut}
 use Rattle.opus_format.specs.Format.{Spells, Behind}
@@ -26,9 +26,10 @@ use Rattle.opus_format.proofs.Sound.{read-spelled, ordinary-whole}
 use Rattle.opus_header.specs.Compact.{compact, filling}
 use Rattle.opus_header.proofs.Rebuilt.{spelled-lasts, spelled-some}
 use Rattle.opus_header.proofs.Filling.{filling-spelled}
-use Rattle.packet_pad.specs.Pad.{over, padsTo, padPacket, padded}
+use Rattle.packet_pad.specs.Pad.{padsTo, padPacket, padded}
 use Rattle.packet_pad.specs.Unpad.{unpadPacket, unpadded}
-use Rattle.packet_pad.proofs.Calls.{pad-within, pad-more, unpad-within}
+use Rattle.packet_pad.proofs.Given.{length-own, lengths-own}
+use Rattle.packet_pad.proofs.Calls.{pad-more, unpad-some}
 
 pub read-whole : (p : List ℕ) (toc : ℕ) (ns : List ℕ) (first taken : ℕ) → Bytes p → read false p ≡ accepted toc ns first taken → Spells false (upperSix toc) p (cut ns (drop first p))
 read-whole p toc ns first taken bytes r =
@@ -55,30 +56,25 @@ module _ {sd : Bool} {six : ℕ} {p : List ℕ} {frames : List (List ℕ)} (w : 
   filling-of m = filling-spelled sd six frames m (spelled-lasts w) (w .small)
 
 -- ---- pad and unpad
-pub not-over : (s : List ℕ) (n : ℕ) → n ≤ length s → n ≤ 65535 → over s (pos n) ≡ false
-not-over s n h k = rw (le-ltb (length s) n h, le-ltb 65535 n k)
+module _ {six : ℕ} {p : List ℕ} {frames : List (List ℕ)} (w : Spells false six p frames) where
+  pub pads : (new : ℕ) → padPacket p new ≡ wrote 0 (filling false six frames new)
+  unfolding padPacket
+  pads new = rw (reading w, cuts-back w, spelled-six w)
+
+  pub unpads : unpadPacket p ≡ written (compact false six frames)
+  unfolding unpadPacket
+  unpads = rw (reading w, cuts-back w, spelled-six w)
 
 module _ {six : ℕ} {frames : List (List ℕ)} (s : List ℕ) (len : ℕ) (fits : len ≤ length s) (most : len ≤ 65535) (w : Spells false six (take len s) frames) where
-  long : length (take len s) ≡ len
-  long = length-take-le len s fits
-
   some : 1 ≤ len
-  some = omega (arith, long, spelled-some w)
-
-  unpad-packet : unpadPacket s len ≡ writes (compact false six frames) s
-  unfolding unpadPacket
-  unpad-packet = rw (reading w, cuts-back w, spelled-six w)
+  some = omega (arith, length-take-le len s fits, spelled-some w)
 
   pub unpad-spelled : unpadded s (pos len) ≡ writes (compact false six frames) s
-  unpad-spelled =
-      unpad-within s (pos len) len refl refl (not-over s len fits most) some
-      ∙ unpad-packet
+  unpad-spelled = unpad-some s (pos len) len (length-own s len fits most) (λ z. omega (arith, some)) ∙ ap (leaves s) (unpads w)
 
   pub pad-spelled : (new : ℕ) → len < new → new ≤ length s → new ≤ 65535 → padded s (pos len) (pos new) ≡ padsTo (filling false six frames new) s
-  unfolding padPacket
   pad-spelled new more room short =
-      pad-within s (pos len) (pos new) len new refl refl refl (not-over s len fits most) refl (not-over s new room short)
-      ∙ (pad-more s len new some (λ e. omega arith) (omega arith) ∙ rw (reading w, cuts-back w, spelled-six w))
+      pad-more s (pos len) (pos new) len new (lengths-own s len new some more room short) ∙ ap (leaves s) (pads w new)
 
 -- a packet q that was written into the buffer
 pub unpad-written : {six : ℕ} {q : List ℕ} {frames : List (List ℕ)} (s : List ℕ) (n : ℕ) → length q ≡ n → n ≤ length s → n ≤ 65535 → Spells false six q frames → unpadded (sets s 0 q) (pos n) ≡ writes (compact false six frames) (sets s 0 q)

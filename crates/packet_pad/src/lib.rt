@@ -1,12 +1,14 @@
 // Pad and unpad, where the packet lies (repacketizer.rs): the packet is read, then refused or rewritten, so that a refusal leaves every byte.
 // A rewrite moves the block of frames, then writes the header in front of it and zeros behind it.
+pub mod lengths;
+
 ghost use mathlib.Core.Path.{_≡_};
 ghost use mathlib.Core.Bool.{false};
 ghost use Prim.Native.Nat.{_+_, _<_, _≤_};
-ghost use lib.IntN.{pos};
-ghost use lib.ListN.{length, drop};
+ghost use lib.ListN.{length, take, drop};
 ghost use lib.Seq.{sets};
 ghost use Rattle.opus_defines.specs.Numbers.{numberOf};
+ghost use Rattle.opus_defines.specs.Outcome.{leaves};
 ghost use Rattle.opus_size.specs.Size.{mostBytes};
 ghost use Rattle.opus_toc.specs.Toc.{upperSix};
 ghost use Rattle.opus_format.specs.Frames.{cut, total, longest};
@@ -15,10 +17,12 @@ ghost use Rattle.opus_header.specs.Header.{compactHeader};
 ghost use Rattle.opus_header.specs.Compact.{compact, filling};
 ghost use Rattle.opus_header.specs.Sums.{sumsOf};
 ghost use Rattle.opus_header.specs.Forms.{missing, formPacket};
-ghost use Rattle.packet_pad.specs.Pad.{over, padPacket, padLengths, padded};
+ghost use Rattle.packet_pad.specs.Pad.{padPacket, padded};
 ghost use Rattle.packet_pad.specs.Unpad.{unpadPacket, unpadded};
+use crate::lengths::Lengths;
+use crate::lengths::length_of;
+use crate::lengths::lengths_of;
 use opus_defines::Answer;
-use opus_defines::Count;
 use opus_defines::Refusal;
 use opus_defines::Verdict;
 use opus_header::Form;
@@ -77,10 +81,10 @@ fn pad_frames(data: &mut [u8], toc: u8, ns: &[u16], first: usize, new_len: usize
 }
 
 // The packet in the first `len` bytes, padded to more.
-fn pad_packet(data: &mut [u8], len: usize, new_len: usize) -> Answer
+pub fn pad_packet(data: &mut [u8], len: usize, new_len: usize) -> Answer
     requires { ⌜ (len < «new_len») × («new_len» ≤ length (now «data»)) × («new_len» ≤ 65535) ⌝ }
-    ensures number { λ r. ⌜ numberOf r ≡ padPacket (now («data» .entry)) len «new_len» .number ⌝ }
-    ensures bytes { λ _. ⌜ now («data» .exit) ≡ padPacket (now («data» .entry)) len «new_len» .bytes ⌝ }
+    ensures number { λ r. ⌜ numberOf r ≡ leaves (now («data» .entry)) (padPacket (take len (now («data» .entry))) «new_len») .number ⌝ }
+    ensures bytes { λ _. ⌜ now («data» .exit) ≡ leaves (now («data» .entry)) (padPacket (take len (now («data» .entry))) «new_len») .bytes ⌝ }
 {
     let mut lengths = [0u16; 48];
     let p = opus::read_into(&data[..len], false, &mut lengths);
@@ -94,51 +98,16 @@ fn pad_packet(data: &mut [u8], len: usize, new_len: usize) -> Answer
     Answer::Refused(e)
 }
 
-// The same for lengths within the buffer; equal ones are done without reading the packet.
-pub fn pad_lengths(data: &mut [u8], len: usize, new_len: usize) -> Answer
-    requires { ⌜ (len ≤ length (now «data»)) × («new_len» ≤ length (now «data»)) × («new_len» ≤ 65535) ⌝ }
-    ensures number { λ r. ⌜ numberOf r ≡ padLengths (now («data» .entry)) len «new_len» .number ⌝ }
-    ensures bytes { λ _. ⌜ now («data» .exit) ≡ padLengths (now («data» .entry)) len «new_len» .bytes ⌝ }
-{
-    if len < 1 {
-        return Answer::Refused(Refusal::BadArg);
-    }
-    if len == new_len {
-        return Answer::Number(0);
-    }
-    if new_len < len {
-        return Answer::Refused(Refusal::BadArg);
-    }
-    pad_packet(data, len, new_len)
-}
-
-// Whether a length is above the lent buffer or above 65,535.
-pub fn is_over(data: &[u8], len: usize) -> bool
-    ensures { λ r. ⌜ r ≡ over (now («data» .entry)) (pos len) ⌝ }
-{
-    if data.len() < len {
-        return true;
-    }
-    opus::MOST_PACKET < len
-}
-
 fn pad_answer(data: &mut [u8], len: i32, new_len: i32) -> Answer
     ensures number { λ r. ⌜ numberOf r ≡ padded (now («data» .entry)) len «new_len» .number ⌝ }
     ensures bytes { λ _. ⌜ now («data» .exit) ≡ padded (now («data» .entry)) len «new_len» .bytes ⌝ }
 {
-    let Count::Is(n) = opus_defines::count_of(len) else {
-        return Answer::Refused(Refusal::BadArg);
-    };
-    let Count::Is(m) = opus_defines::count_of(new_len) else {
-        return Answer::Refused(Refusal::BadArg);
-    };
-    if is_over(data, n) {
-        return Answer::Refused(Refusal::BadArg);
+    let l = lengths_of(data, len, new_len);
+    match l {
+        Lengths::Bad => Answer::Refused(Refusal::BadArg),
+        Lengths::Same => Answer::Number(opus_defines::OPUS_OK),
+        Lengths::More(n, m) => pad_packet(data, n, m),
     }
-    if is_over(data, m) {
-        return Answer::Refused(Refusal::BadArg);
-    }
-    pad_lengths(data, n, m)
 }
 
 // Pads the packet in the first `len` bytes of the buffer to `new_len`, and answers 0.
@@ -165,8 +134,8 @@ fn unpad_frames(data: &mut [u8], toc: u8, ns: &[u16], first: usize) -> usize
 // The packet in the first `len` bytes, without padding and in compact form.
 fn unpad_packet(data: &mut [u8], len: usize) -> Answer
     requires { ⌜ (len ≤ length (now «data»)) × (len ≤ 65535) ⌝ }
-    ensures number { λ r. ⌜ numberOf r ≡ unpadPacket (now («data» .entry)) len .number ⌝ }
-    ensures bytes { λ _. ⌜ now («data» .exit) ≡ unpadPacket (now («data» .entry)) len .bytes ⌝ }
+    ensures number { λ r. ⌜ numberOf r ≡ leaves (now («data» .entry)) (unpadPacket (take len (now («data» .entry)))) .number ⌝ }
+    ensures bytes { λ _. ⌜ now («data» .exit) ≡ leaves (now («data» .entry)) (unpadPacket (take len (now («data» .entry)))) .bytes ⌝ }
 {
     let mut lengths = [0u16; 48];
     let p = opus::read_into(&data[..len], false, &mut lengths);
@@ -184,13 +153,8 @@ fn unpad_answer(data: &mut [u8], len: i32) -> Answer
     ensures number { λ r. ⌜ numberOf r ≡ unpadded (now («data» .entry)) len .number ⌝ }
     ensures bytes { λ _. ⌜ now («data» .exit) ≡ unpadded (now («data» .entry)) len .bytes ⌝ }
 {
-    let Count::Is(n) = opus_defines::count_of(len) else {
-        return Answer::Refused(Refusal::BadArg);
-    };
-    if is_over(data, n) {
-        return Answer::Refused(Refusal::BadArg);
-    }
-    if n < 1 {
+    let n = length_of(data, len);
+    if n == 0 {
         return Answer::Refused(Refusal::BadArg);
     }
     unpad_packet(data, n)

@@ -25,7 +25,9 @@ use Rattle.opus_toc.specs.declared.Samples8k.{Samples8k}
 use Rattle.opus_toc.specs.Toc.{upperSix, configuration, samples}
 use Rattle.opus_format.specs.Frames.{total, longest}
 use Rattle.opus_format.specs.Format.{Lasts}
-use Rattle.opus_format.specs.Reading.{Rule, Reading, refused, accepted, read}
+use Rattle.opus_defines.specs.Rules.{ruleRefusal}
+use Rattle.opus_defines.specs.declared.Rule.{Rule}
+use Rattle.opus_format.specs.Reading.{Reading, refused, accepted, read}
 use Rattle.opus_format.proofs.Counts.{lasts-few}
 use Rattle.blocks.specs.Blocks.{copied}
 use Rattle.repacketizer.specs.declared.OpusRepacketizer.{OpusRepacketizer}
@@ -127,7 +129,7 @@ module _ (sd : Bool) (rp : OpusRepacketizer) (p store : List ℕ) where
   unfolding addPacket
   add-long h = rw (lt-ltb 65535 (length p) h)
 
-  pub add-refused : (rule : Rule) → length p ≤ 65535 → read sd p ≡ refused rule → addPacket sd rp p store ≡ noAdd InvalidPacket rp store
+  pub add-refused : (rule : Rule) → length p ≤ 65535 → read sd p ≡ refused rule → addPacket sd rp p store ≡ noAdd (ruleRefusal rule) rp store
   unfolding addPacket
   add-refused rule h r = rw (le-ltb 65535 (length p) h, r)
 
@@ -160,7 +162,7 @@ ends sd rp p store =
     (λ s. rw s (refuses InvalidState))
   where
     go : (x : Reading) → read sd p ≡ x → Ends sd rp p store (addRead rp p store (read sd p))
-    go (refused rule) q = rw q (refuses InvalidPacket)
+    go (refused rule) q = rw q (refuses (ruleRefusal rule))
     go (accepted toc ns first end) q =
         rw q
         (by-test (goesWith rp toc (length ns))

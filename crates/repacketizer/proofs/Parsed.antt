@@ -3,12 +3,11 @@
 --     lent-refused     a refused one that is not too long: the add is refused
 -- Assumes nothing.
 use Prim.Native.Nat.{ℕ, _≤_}
-use mathlib.Core.Path.{_≡_}
+use mathlib.Core.Path.{_≡_, sym, ap, _∙_}
 use mathlib.Core.List.{List}
 use mathlib.Core.Bool.{Bool}
 use lib.ListN.{length}
 use Rattle.opus_defines.specs.declared.Refusal.{Refusal}
-use Rattle.opus_defines.specs.declared.Refusal.the-variants.{InvalidPacket}
 use Rattle.opus_defines.specs.declared.Verdict.the-variants.{Accepted, Refused}
 use Rattle.opus.specs.Answers.{parsed, answerOf}
 use Rattle.opus.specs.declared.PacketHead.{PacketHead}
@@ -23,7 +22,7 @@ module _ (sd : Bool) (p : List ℕ) (h : PacketHead) (l : List ℕ) (e : answerO
   lent-read v = parsed-accepted sd p (packetWith h l) (lent-accepted sd p h l e v) v
 
   pub lent-refused : length p ≤ 65535 → {c : Refusal} → h .verdict ≡ Refused c → (rp : OpusRepacketizer) (store : List ℕ)
-      → addPacket sd rp p store ≡ noAdd InvalidPacket rp store
+      → addPacket sd rp p store ≡ noAdd c rp store
   lent-refused k {c} v rp store =
       let r = parsed-refused sd p (answerOf h l) e c v k in
-      add-refused sd rp p store (r .1 .0) k (r .1 .1)
+      add-refused sd rp p store (r .0) k (r .2) ∙ ap (λ (x : Refusal). noAdd x rp store) (sym (r .1))

@@ -6,7 +6,9 @@ use lib.Dec.{ltb, leb, eqb}
 use lib.IntN.{ℤ, pos}
 use lib.ListN.{length}
 use lib.Seq.{sets}
+use Rattle.opus_defines.specs.Bounds.{mostPacket}
 use Rattle.opus_defines.specs.Numbers.{verdictNumber}
+use Rattle.opus_defines.specs.Rules.{ruleRefusal}
 use Rattle.opus_defines.specs.declared.Refusal.{Refusal}
 use Rattle.opus_defines.specs.declared.Refusal.the-variants.{BadArg, InvalidPacket, InvalidState}
 use Rattle.opus_defines.specs.declared.Verdict.the-variants.{Accepted, Refused}
@@ -62,12 +64,12 @@ addBlock rp toc ns p first store =
     (noAdd InvalidPacket rp store)
 
 abbrev pub addRead : OpusRepacketizer → List ℕ → List ℕ → Reading → Adding
-addRead rp p store (refused rule) = noAdd InvalidPacket rp store
+addRead rp p store (refused rule) = noAdd (ruleRefusal rule) rp store
 addRead rp p store (accepted toc ns first taken) = addBlock rp toc ns p first store
 
 -- a packet over 65,535 bytes is refused before it is read
 unfoldable pub addPacket : Bool → OpusRepacketizer → List ℕ → List ℕ → Adding
-addPacket sd rp p store = cond (ltb 65535 (length p)) (noAdd BadArg rp store) (addRead rp p store (read sd p))
+addPacket sd rp p store = cond (ltb mostPacket (length p)) (noAdd BadArg rp store) (addRead rp p store (read sd p))
 
 -- `opus_repacketizer_cat_impl`; `opus_repacketizer_cat` is its ordinary form
 unfoldable pub added : Bool → OpusRepacketizer → List ℕ → List ℕ → Adding

@@ -342,7 +342,7 @@ fn add_two(
     more_frames(h, toc, 2)
 }
 
-// Reads a packet of any code and adds it to a sound collector. A refusal is named here, so that its number is known where the collector is built.
+// Reads a packet of any code and adds it to a sound collector.
 fn add_read(
     h: Head,
     len: &mut [u16],
@@ -363,12 +363,12 @@ fn add_read(
     let mut lengths = [0u16; 48];
     let p = opus::read_into(data, self_delimited, &mut lengths);
     let v = p.verdict;
-    let Verdict::Accepted = v else {
-        return refused_add(Refusal::InvalidPacket, h);
+    let Verdict::Refused(e) = v else {
+        let n = p.count;
+        let first = p.first;
+        return add_block(h, len, at, p.toc, &lengths[..n], data, first, store);
     };
-    let n = p.count;
-    let first = p.first;
-    add_block(h, len, at, p.toc, &lengths[..n], data, first, store)
+    refused_add(e, h)
 }
 
 // Adds a packet to a sound collector: an ordinary one of code 0, 1 or 2 without an array for its lengths.
@@ -398,7 +398,7 @@ fn add_packet(
     match s {
         Short::One(n, first) => add_one(h, len, at, data[0], n, data, first, store),
         Short::Two(m, n, first) => add_two(h, len, at, data[0], m, n, data, first, store),
-        Short::Broken => refused_add(Refusal::InvalidPacket, h),
+        Short::Broken(rule) => refused_add(opus_defines::rule_refusal(rule), h),
         Short::Counted => add_read(h, len, at, data, false, store),
     }
 }

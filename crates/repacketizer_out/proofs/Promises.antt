@@ -20,10 +20,11 @@ use Rattle.repacketizer.specs.declared.OpusRepacketizer.{OpusRepacketizer}
 use Rattle.repacketizer.specs.Collector.{held, leastStore}
 use Rattle.repacketizer.specs.Runs.{State, Ready, afterAdds}
 use Rattle.repacketizer.proofs.Promises.{start}
-use Rattle.repacketizer_out.specs.Output.{range, outRange}
+use Rattle.opus_defines.proofs.Outcomes.{refusal-keeps}
+use Rattle.repacketizer_out.specs.Output.{outputs, range, outRange}
 use Rattle.repacketizer_out.specs.Pieces.{Nonempty, together}
 use Rattle.repacketizer_out.proofs.Ranges.{range-lasts, range-small}
-use Rattle.repacketizer_out.proofs.Outputs.{range-output, output-written, output-exactly, output-fills, ends, refused-same}
+use Rattle.repacketizer_out.proofs.Outputs.{range-output, output-written, output-exactly, output-fills}
 use Rattle.repacketizer_out.proofs.Packets.{spelled-back}
 use Rattle.repacketizer_out.proofs.Again.{cuts-held}
 
@@ -77,4 +78,5 @@ cuts-give-the-frames-again s r b pieces n e some store h =
 
 -- 7. A refused output changes nothing.
 pub refused-output-changes-nothing : (sd pad : Bool) (rp : OpusRepacketizer) (store : List ℕ) (begin end : ℤ) (dst : List ℕ) (n : ℕ) → outRange sd pad rp store begin end dst .number ≡ negsuc n → outRange sd pad rp store begin end dst .bytes ≡ dst
-refused-output-changes-nothing sd pad rp store begin end dst n e = refused-same (ends sd pad dst rp store begin end) e
+unfolding outRange
+refused-output-changes-nothing sd pad rp store begin end dst n e = refusal-keeps dst (outputs sd pad rp store begin end (length dst)) n e

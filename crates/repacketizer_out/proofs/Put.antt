@@ -12,7 +12,7 @@ use lib.IntN.{pos, negsuc}
 use lib.ListN.{length, drop, replicate, length-append, length-drop, length-replicate}
 use lib.Seq.{sets}
 use Rattle.laws.proofs.Never.{cond-elim}
-use Rattle.opus_defines.specs.Outcome.{writes}
+use Rattle.opus_defines.specs.Outcome.{leaves, writes}
 use Rattle.opus_defines.specs.declared.Refusal.the-variants.{BufferTooSmall}
 use Rattle.opus_format.specs.Frames.{lengths, joined, cut, total}
 use Rattle.opus_format.proofs.Frames.{joined-cut, lengths-cut}
@@ -62,7 +62,7 @@ module _ (sd pad : Bool) (six : ℕ) (ns store : List ℕ) (from : ℕ) (dst : L
         let size : length (compact sd six frames) ≡ length (compactHeader sd six ns) + total ns = rw (compact-size sd six frames, lengths-are, bytes) in
         asks ∙ (compact-bytes sd six ns m measured ∙ sym size)
 
-    pub put-refused : length dst < need → (negsuc 1 ≡ output sd pad six frames dst .number) × (dst ≡ output sd pad six frames dst .bytes)
+    pub put-refused : length dst < need → (negsuc 1 ≡ leaves dst (output sd pad six frames (length dst)) .number) × (dst ≡ leaves dst (output sd pad six frames (length dst)) .bytes)
     put-refused h = refused-as BufferTooSmall (output-refused sd pad six frames dst (omega (arith, need-is)))
 
     module _ (fits : need ≤ length dst) {form : Form} (chosen : form ≡ formFor (length ns) need (length dst) pad) where
@@ -78,7 +78,7 @@ module _ (sd pad : Bool) (six : ℕ) (ns store : List ℕ) (from : ℕ) (dst : L
           let f = rw (lengths-are, joined-are, ← need-is, ← chosen) at (packet-formed sd six frames pad (length dst)) in
           f ∙ sym (append-assoc head (part store from (total ns)) (replicate (padBytes (missing form)) 0))
 
-      written : output sd pad six frames dst ≡ writes packet dst
+      written : leaves dst (output sd pad six frames (length dst)) ≡ writes packet dst
       written = output-written sd pad six frames dst (omega (arith, need-is))
 
       length-packet : length packet ≡ length head + total ns + padBytes (missing form)
@@ -98,7 +98,7 @@ module _ (sd pad : Bool) (six : ℕ) (ns store : List ℕ) (from : ℕ) (dst : L
 
       module _ {d : List ℕ} {end : ℕ} (put : d ≡ sets dst 0 (head ++ part store from (total ns))) (ends : end ≡ length head + total ns) where
         -- the compact packet has no zeros
-        pub put-plain : pad ≡ false → (pos end ≡ output sd pad six frames dst .number) × (d ≡ output sd pad six frames dst .bytes)
+        pub put-plain : pad ≡ false → (pos end ≡ leaves dst (output sd pad six frames (length dst)) .number) × (d ≡ leaves dst (output sd pad six frames (length dst)) .bytes)
         put-plain p =
             let form-is = rw p at chosen in
             let none : padBytes (missing form) ≡ 0 = rw (form-is, compact-missing (length ns)) in
@@ -107,7 +107,7 @@ module _ (sd pad : Bool) (six : ℕ) (ns store : List ℕ) (from : ℕ) (dst : L
             rw (written, long, whole) (refl, put)
 
         -- the zeros reach the end of the destination
-        pub put-padded : pad ≡ true → {d′ : List ℕ} → d′ ≡ filled d end (length dst - end) 0 → (pos (length dst) ≡ output sd pad six frames dst .number) × (d′ ≡ output sd pad six frames dst .bytes)
+        pub put-padded : pad ≡ true → {d′ : List ℕ} → d′ ≡ filled d end (length dst - end) 0 → (pos (length dst) ≡ leaves dst (output sd pad six frames (length dst)) .number) × (d′ ≡ leaves dst (output sd pad six frames (length dst)) .bytes)
         put-padded p {d′} f =
             let behind : end ≡ length (head ++ part store from (total ns)) = ends ∙ sym (simp length-append (omega (arith, length-part store from (total ns) block))) in
             let rest : length dst - end ≡ padBytes (missing form) = omega (arith, fills p, length-packet) in

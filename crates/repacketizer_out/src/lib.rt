@@ -7,6 +7,7 @@ ghost use lib.IntN.{pos};
 ghost use lib.ListN.{length, drop};
 ghost use lib.Seq.{sets};
 ghost use Rattle.opus_defines.specs.Numbers.{numberOf};
+ghost use Rattle.opus_defines.specs.Outcome.{leaves};
 ghost use Rattle.opus_size.specs.Size.{mostBytes};
 ghost use Rattle.opus_toc.specs.Toc.{upperSix};
 ghost use Rattle.opus_format.specs.Frames.{cut, total, longest};
@@ -62,9 +63,9 @@ fn put_frames(
     requires some { ⌜ (1 ≤ length (now ns)) × (length (now ns) ≤ 48) × (longest (now ns) ≤ mostBytes) ⌝ }
     requires block { ⌜ (from + total (now ns) ≤ length (now store)) × (length (now «data») ≤ 65535) ⌝ }
     ensures number { λ r. ⌜ numberOf r
-        ≡ output «self_delimited» pad (upperSix toc) (cut (now (ns .entry)) (drop from (now (store .entry)))) (now («data» .entry)) .number ⌝ }
+        ≡ leaves (now («data» .entry)) (output «self_delimited» pad (upperSix toc) (cut (now (ns .entry)) (drop from (now (store .entry)))) (length (now («data» .entry)))) .number ⌝ }
     ensures bytes { λ _. ⌜ now («data» .exit)
-        ≡ output «self_delimited» pad (upperSix toc) (cut (now (ns .entry)) (drop from (now (store .entry)))) (now («data» .entry)) .bytes ⌝ }
+        ≡ leaves (now («data» .entry)) (output «self_delimited» pad (upperSix toc) (cut (now (ns .entry)) (drop from (now (store .entry)))) (length (now («data» .entry)))) .bytes ⌝ }
 {
     let m = opus_header::sums_of(ns);
     let need = opus_header::compact_bytes(ns.len(), m, self_delimited);
@@ -95,11 +96,9 @@ fn out_frames(
     requires collector { ⌜ (length (now len) ≡ 48) × (sound (collectorOf h (now len)) ≡ true) ⌝ }
     requires buffers { ⌜ (leastStore ≤ length (now store)) × (length (now «data») ≤ 65535) ⌝ }
     ensures number { λ r. ⌜ numberOf r
-        ≡ outFrames «self_delimited» pad (upperSix (h .toc)) (held (collectorOf h (now (len .entry))) (now (store .entry))) (pos begin) (pos end)
-        (now («data» .entry)) .number ⌝ }
+        ≡ leaves (now («data» .entry)) (outFrames «self_delimited» pad (upperSix (h .toc)) (held (collectorOf h (now (len .entry))) (now (store .entry))) (pos begin) (pos end) (length (now («data» .entry)))) .number ⌝ }
     ensures bytes { λ _. ⌜ now («data» .exit)
-        ≡ outFrames «self_delimited» pad (upperSix (h .toc)) (held (collectorOf h (now (len .entry))) (now (store .entry))) (pos begin) (pos end)
-        (now («data» .entry)) .bytes ⌝ }
+        ≡ leaves (now («data» .entry)) (outFrames «self_delimited» pad (upperSix (h .toc)) (held (collectorOf h (now (len .entry))) (now (store .entry))) (pos begin) (pos end) (length (now («data» .entry)))) .bytes ⌝ }
 {
     let n = wide(h.nb_frames);
     if end <= begin {

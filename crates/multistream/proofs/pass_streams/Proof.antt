@@ -3,7 +3,7 @@
 use Prim.Native.Nat.{_+_, _-_}
 use native.Mathlib.Omega.{arith}
 use borrow.Author.Needs.{needs}
-use Rattle.opus.specs.Answers.{answerOf}
+use Rattle.multistream.proofs.Bounds.{part-short}
 use Rattle.multistream.proofs.Passing.{Passing, passing-start, passing-end, passing-stuck, passing-more}
 use Rattle.multistream.proofs.pass_streams.Statement.{statement}
 use Rattle.multistream.proofs.pass_streams.Tie as tie
@@ -17,22 +17,28 @@ abbrev μ-loop : tie.MeasureT-loop
 loop-holds : tie.Need-loop-holds Inv-loop μ-loop
 loop-holds c = passing-start _ _
 
+short : tie.Need-pass-stream-requires Inv-loop μ-loop
+short c κs =
+    let s = c .before .before .before .before in
+    part-short (s .args .«data» .now) (c .before .before .loop .at) 65535 (s .pre)
+
 returns : tie.Need-returns Inv-loop μ-loop
 returns c =
-    let r = c .before .before .read-into in
-    let i = c .before .before .before .before .before in
+    let p = c .before .before in
+    let i = p .before .before in
     let l = i .before .loop in
-    let b = i .before .before .before in
-    passing-stuck (b .args .«data» .now) (b .args .k) (l .at) (l .i) (l .inv) (answerOf (r .result) (r .last .1 .1 .0)) (r .ensures) (i .loop-test .taken) _ (c .enum-told2 .given .1) (b .pre)
+    let a = i .before .before .before .args in
+    passing-stuck (a .«data» .now) (a .k) (l .at) (l .i) (l .inv) (p .pass-stream .result) (p .pass-stream .ensures) (i .loop-test .taken) _ (c .enum-told .given .1)
 
-next : (c : tie.After-struct-known Inv-loop μ-loop) → let r = c .before .before .before .read-into in let i = c .before .before .before .before .before .before in let l = i .before .loop in let a = i .before .before .before .args in Passing (a .«data» .now) (a .k) (l .at + r .result .taken) (l .i + 1)
+next : (c : tie.After-known-told Inv-loop μ-loop) → let i = c .before .before .before .before .before in let l = i .before .loop in let a = i .before .before .before .args in Passing (a .«data» .now) (a .k) (l .at + c .before .p .given .0 .0) (l .i + 1)
 next c =
-    let r = c .before .before .before .read-into in
-    let i = c .before .before .before .before .before .before in
+    let p = c .before .before .before in
+    let i = p .before .before in
     let l = i .before .loop in
     let k = i .before .before in
     let a = k .before .args in
-    passing-more (a .«data» .now) (a .k) (l .at) (l .i) (l .inv) (answerOf (r .result) (r .last .1 .1 .0)) (r .ensures) (i .loop-test .taken) (c .before .enum-told .given .1) (record { byte = λ j. k .shared-slice-known .given j .fits })
+    passing-more (a .«data» .now) (a .k) (l .at) (l .i) (l .inv) (p .pass-stream .result) (p .pass-stream .ensures) (i .loop-test .taken)
+    (c .before .p .given .0 .0) (c .before .p .given .1) (record { byte = λ j. k .shared-slice-known .given j .fits })
 
 returns-2 : tie.Need-returns-2 Inv-loop μ-loop
 returns-2 c =
@@ -50,7 +56,7 @@ pass-streams-spec =
     (λ c. c .before .loop .inv .inside)
     (λ c. search needs)
     (λ c. search needs)
-    (λ c κs. search needs)
+    short
     (λ c. search needs)
     (λ c. search needs)
     returns

@@ -14,13 +14,13 @@ use Rattle.opus.proofs.read_3.Tie as tie
 returns : tie.Need-returns
 returns c =
     let a = c .before .before .before .args in
-    none-answered _ _ _ (c .no-head .ensures) ∙ three-short (a .self-delimited) (a .«data» .now) (c .before .if1 .taken)
+    none-answered _ _ _ (c .broken-head .ensures) ∙ three-short (a .self-delimited) (a .«data» .now) (c .before .if1 .taken)
 
 returns-2 : tie.Need-returns-2
 returns-2 c =
     let i = c .before .before .before in
     let a = i .before .before .args in
-    none-answered _ _ _ (c .no-head2 .ensures) ∙ three-none (a .self-delimited) (a .«data» .now) (i .if1 .left) (c .before .if2 .taken)
+    none-answered _ _ _ (c .broken-head2 .ensures) ∙ three-none (a .self-delimited) (a .«data» .now) (i .if1 .left) (c .before .if2 .taken)
 
 -- the first byte is a byte
 toc-byte : (c : tie.After-shared-slice-known3) → getD (c .before .before .before .before .before .args .«data» .now) 0 0 < 256
@@ -32,7 +32,7 @@ returns-3 c =
     let t = f .before in
     let i = t .before .before in
     let a = i .before .before .before .before .args in
-    none-answered _ _ _ (c .no-head3 .ensures)
+    none-answered _ _ _ (c .broken-head3 .ensures)
     ∙ three-long (a .self-delimited) (a .«data» .now) (i .before .before .if1 .left) (i .if2 .left) _ (toc-byte (t .before)) (t .samples-48k .ensures)
     (sym (f .fits2 .ensures) ∙ not-true _ (c .before .if3 .taken))
 

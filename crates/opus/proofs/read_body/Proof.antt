@@ -1,10 +1,13 @@
 -- `opus::read_body` meets its contract: the padding is read behind the count byte, and the frames up to it.
 -- Assumes nothing.
 use Prim.Native.Nat.{_+_, _≤_}
-use mathlib.Core.Path.{sym, _∙_}
+use mathlib.Core.Path.{sym, ap, _∙_}
 use native.Mathlib.Omega.{arith}
 use borrow.Author.Needs.{needs}
 use lib.ListN.{length}
+use Rattle.opus_defines.specs.Rules.{ruleRefusal}
+use Rattle.opus_defines.specs.declared.Rule.{Rule}
+use Rattle.opus.specs.Answers.{noPacket}
 use Rattle.opus.proofs.AtPacket.{body-unfit, body-room, body-fits, body-read}
 use Rattle.opus.proofs.Lent.{none-answered}
 use Rattle.opus.proofs.read_body.Statement.{statement}
@@ -12,10 +15,11 @@ use Rattle.opus.proofs.read_body.Tie as tie
 
 returns : tie.Need-returns
 returns c =
-    let b = c .before .before .before in
+    let b = c .before .before .before .before in
     let a = b .before .before .before .before .args in
-    none-answered _ _ _ (c .no-head .ensures)
-    ∙ body-unfit (a .self-delimited) (a .«data» .now) (a .count) (sym (b .read-padding .ensures) ∙ c .before .enum-told .given .1)
+    none-answered _ _ _ (c .broken-head .ensures)
+    ∙ (ap (λ (r : Rule). noPacket (ruleRefusal r)) (c .before .size-rule .ensures)
+    ∙ body-unfit (a .self-delimited) (a .«data» .now) (a .count) (sym (b .read-padding .ensures) ∙ c .before .before .enum-told .given .1))
 
 -- the padding lengths and the padding lie within the packet
 room : (c : tie.After-known-told) → 2 + c .before .padding .given .0 .1 .0 + c .before .padding .given .0 .0 ≤ length (c .before .before .before .before .before .before .before .args .«data» .now)
@@ -65,6 +69,7 @@ read-body-spec =
     (λ c κs. search needs)
     (λ c. search needs)
     (λ c. search needs)
+    (λ c κs. search needs)
     (λ c κs. search needs)
     returns
     add-at

@@ -15,7 +15,7 @@ returns c =
 returns-2 : tie.Need-returns-2
 returns-2 c =
     let a = c .before .before .before .before .args in
-    none-answered _ _ _ (c .no-head2 .ensures) ∙ parse-empty (a .self-delimited) (a .«data» .now) (c .before .if2 .taken)
+    none-answered _ _ _ (c .broken-head .ensures) ∙ parse-empty (a .self-delimited) (a .«data» .now) (c .before .if2 .taken)
 
 returns-3 : tie.Need-returns-3
 returns-3 c =

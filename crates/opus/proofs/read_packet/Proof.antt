@@ -3,6 +3,7 @@
 use mathlib.Core.Path.{refl, _∙_}
 use native.Mathlib.Omega.{arith}
 use borrow.Author.Needs.{needs}
+use Rattle.opus_defines.specs.declared.Rule.the-variants.{R2, R4}
 use Rattle.opus.proofs.AtPacket.{unequal-fits, equal-fits, code-0, code-1, code-2, code-3}
 use Rattle.opus.proofs.read_packet.Statement.{statement}
 use Rattle.opus.proofs.read_packet.Tie as tie
@@ -11,7 +12,7 @@ behind-toc-requires : tie.Need-behind-toc-requires
 behind-toc-requires c κs =
     let s = c .before .before .before .before .before .before in
     let f = c .unequal-frames in
-    omega (arith, s .pre .0, unequal-fits (s .args .self-delimited) (s .args .«data» .now) (s .pre .0 .0) 0 1 refl (f .result) _ (f .ensures))
+    omega (arith, s .pre .0, unequal-fits (s .args .self-delimited) (s .args .«data» .now) (s .pre .0 .0) 0 1 refl R2 (f .result) _ (f .ensures))
 
 behind-toc-requires-2 : tie.Need-behind-toc-requires-2
 behind-toc-requires-2 c κs =
@@ -23,14 +24,14 @@ behind-toc-requires-3 : tie.Need-behind-toc-requires-3
 behind-toc-requires-3 c κs =
     let s = c .before .before .before .before .before .before in
     let f = c .unequal-frames2 in
-    omega (arith, s .pre .0, unequal-fits (s .args .self-delimited) (s .args .«data» .now) (s .pre .0 .0) 1 2 refl (f .result) _ (f .ensures))
+    omega (arith, s .pre .0, unequal-fits (s .args .self-delimited) (s .args .«data» .now) (s .pre .0 .0) 1 2 refl R4 (f .result) _ (f .ensures))
 
 returns : tie.Need-returns
 returns c =
     let m = c .before .before .before in
     let s = m .before .before .before .before in
     let f = c .before .unequal-frames in
-    code-0 (s .args .self-delimited) (s .args .«data» .now) (s .pre .0 .0) 0 1 refl (f .result) _ (f .ensures) (c .behind-toc .result) (c .behind-toc .ensures) (m .match .keys1) refl
+    code-0 (s .args .self-delimited) (s .args .«data» .now) (s .pre .0 .0) 0 1 refl R2 (f .result) _ (f .ensures) (c .behind-toc .result) (c .behind-toc .ensures) (m .match .keys1) refl refl
 
 returns-2 : tie.Need-returns-2
 returns-2 c =
@@ -44,7 +45,7 @@ returns-3 c =
     let m = c .before .before .before in
     let s = m .before .before .before .before in
     let f = c .before .unequal-frames2 in
-    code-2 (s .args .self-delimited) (s .args .«data» .now) (s .pre .0 .0) 1 2 refl (f .result) _ (f .ensures) (c .behind-toc3 .result) (c .behind-toc3 .ensures) (m .match .keys3) refl
+    code-2 (s .args .self-delimited) (s .args .«data» .now) (s .pre .0 .0) 1 2 refl R4 (f .result) _ (f .ensures) (c .behind-toc3 .result) (c .behind-toc3 .ensures) (m .match .keys3) refl refl
 
 returns-4 : tie.Need-returns-4
 returns-4 c =

@@ -1,74 +1,48 @@
--- `packet_pad::pad_answer` meets its contract: by the signs of the lengths and the tests on them.
+-- `packet_pad::pad_answer` meets its contract: by what the two lengths ask for.
 -- Assumes nothing.
 use mathlib.Core.Path.{_≡_, refl}
 use borrow.Author.Needs.{needs}
-use Rattle.opus_defines.specs.Numbers.{countOf}
-use Rattle.opus_defines.specs.declared.Count.the-variants.{Is}
-use Rattle.opus_defines.proofs.Counts.{counted}
-use Rattle.packet_pad.proofs.Calls.{meets, within, pad-negative, pad-to-negative, pad-over, pad-to-over, pad-within}
+use Rattle.opus_defines.proofs.Outcomes.{meets}
+use Rattle.packet_pad.specs.Lengths.{lengthsOf}
+use Rattle.packet_pad.specs.declared.lengths.Lengths.{Lengths}
+use Rattle.packet_pad.proofs.Given.{lengths-told, more-within}
+use Rattle.packet_pad.proofs.Calls.{pad-bad, pad-same, pad-more}
 use Rattle.packet_pad.proofs.pad_answer.Statement.{statement}
 use Rattle.packet_pad.proofs.pad_answer.Tie as tie
 
+told : {k : Lengths} (c : tie.After-lengths-of) → let a = c .before .before .before .args in c .lengths-of .result ≡ k → lengthsOf (a .«data» .now) (a .len) (a .new-len) ≡ k
+told c e =
+    let s = c .before .before .before in
+    let a = s .args in
+    lengths-told (a .«data» .now) (a .len) (a .new-len) (s .fits .len) (s .fits .new-len) (c .lengths-of .ensures) e
+
+pad-packet-requires : tie.Need-pad-packet-requires
+pad-packet-requires c κs =
+    let l = c .before .before in
+    let t = l .before .before in
+    let a = t .before .before .before .args in
+    let w = more-within (a .«data» .now) (a .len) (a .new-len) _ _ (told t (l .l .given .1)) in
+    (w .1, w .2, w .3)
+
 returns : tie.Need-returns
 returns c =
-    let b = c .before .before in
-    let s = b .before .before in
-    meets (pad-negative (s .args .«data» .now) (s .args .len) (s .args .new-len) (counted (s .args .len) (s .fits .len) (b .count-of .ensures .0) (c .enum-told .given .1))) refl refl
-
--- the first length, and the second
-first : (c : tie.After-known-told) → countOf (c .before .before .before .before .before .args .len) ≡ Is (c .before .n .given .0 .0)
-first c =
-    let b = c .before .before .before in
-    let s = b .before .before in
-    counted (s .args .len) (s .fits .len) (b .count-of .ensures .0) (c .before .n .given .1)
-
-second : (c : tie.After-known-told2) → countOf (c .before .before .before .before .before .before .before .before .before .args .new-len) ≡ Is (c .before .m .given .0 .0)
-second c =
-    let b = c .before .before .before in
-    let s = b .before .before .before .before .before .before in
-    counted (s .args .new-len) (s .fits .new-len) (b .count-of2 .ensures .0) (c .before .m .given .1)
+    let t = c .before .before in
+    let a = t .before .before .before .args in
+    meets (pad-bad (a .«data» .now) (a .len) (a .new-len) (told t (c .enum-told .given .1))) refl refl
 
 returns-2 : tie.Need-returns-2
 returns-2 c =
-    let b = c .before .before in
-    let k = b .before in
-    let s = k .before .before .before .before .before in
-    meets (pad-to-negative (s .args .«data» .now) (s .args .len) (s .args .new-len) _ (first k) (counted (s .args .new-len) (s .fits .new-len) (b .count-of2 .ensures .0) (c .enum-told2 .given .1))) refl refl
+    let t = c .before .before in
+    let a = t .before .before .before .args in
+    meets (pad-same (a .«data» .now) (a .len) (a .new-len) (told t (c .enum-told2 .given .1))) refl refl
 
 returns-3 : tie.Need-returns-3
 returns-3 c =
-    let k = c .before .before .before in
-    let j = k .before .before .before .before in
-    let a = j .before .before .before .before .before .args in
-    meets (pad-over (a .«data» .now) (a .len) (a .new-len) _ _ (first j) (second k) (c .before .is-over .ensures) (c .if1 .taken)) refl refl
-
-returns-4 : tie.Need-returns-4
-returns-4 c =
-    let i = c .before .before .before in
-    let k = i .before .before .before in
-    let j = k .before .before .before .before in
-    let a = j .before .before .before .before .before .args in
-    meets (pad-to-over (a .«data» .now) (a .len) (a .new-len) _ _ (first j) (second k) (i .before .is-over .ensures) (i .if1 .left) (c .before .is-over2 .ensures) (c .if2 .taken)) refl refl
-
-pad-lengths-requires : tie.Need-pad-lengths-requires
-pad-lengths-requires c κs =
-    let i = c .before .before .before .before in
-    let k = i .before .before .before in
-    let j = k .before .before .before .before in
-    let s = j .before .before .before .before .before .args .«data» .now in
-    let n = within s (j .before .n .given .0 .0) (i .before .is-over .ensures) (i .if1 .left) in
-    let m = within s (k .before .m .given .0 .0) (c .before .before .is-over2 .ensures) (c .before .if2 .left) in
-    (n .0, m .0, m .1)
-
-returns-5 : tie.Need-returns-5
-returns-5 c =
     let p = c .before .before in
-    let e = p .before .before in
-    let i = e .before .before .before in
-    let k = i .before .before .before in
-    let j = k .before .before .before .before in
-    let a = j .before .before .before .before .before .args in
-    meets (pad-within (a .«data» .now) (a .len) (a .new-len) _ _ (first j) (second k) (i .before .is-over .ensures) (i .if1 .left) (e .before .is-over2 .ensures) (e .if2 .left)) (p .pad-lengths .ensures .0) (p .pad-lengths .ensures .1)
+    let l = p .before .before .before in
+    let t = l .before .before in
+    let a = t .before .before .before .args in
+    meets (pad-more (a .«data» .now) (a .len) (a .new-len) _ _ (told t (l .l .given .1))) (p .pad-packet .ensures .0) (p .pad-packet .ensures .1)
 
 pub pad-answer-spec : {M : Type 1} → statement M
 pad-answer-spec =
@@ -77,17 +51,11 @@ pad-answer-spec =
     (λ c κs. search needs)
     (λ c. search needs)
     (λ c. search needs)
-    returns
-    (λ c κs. search needs)
     (λ c. search needs)
+    pad-packet-requires
+    (λ c. search needs)
+    returns
     (λ c. search needs)
     returns-2
-    (λ c κs. search needs)
     (λ c. search needs)
-    returns-3
-    (λ c κs. search needs)
-    (λ c. search needs)
-    returns-4
-    pad-lengths-requires
-    (λ c. search needs)
-    returns-5)
+    returns-3)

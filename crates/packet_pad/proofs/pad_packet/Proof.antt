@@ -1,15 +1,17 @@
 -- `packet_pad::pad_packet` meets its contract: the packet is read, and its frames are padded where they stand.
 -- Assumes nothing.
 use native.Mathlib.Omega.{arith}
-use mathlib.Core.Path.{refl, sym}
+use mathlib.Core.Path.{refl, sym, ap}
 use mathlib.Core.Bool.{false}
 use lib.Seq.{length-take-le}
 use borrow.Author.Needs.{needs}
+use Rattle.opus_defines.specs.Outcome.{leaves}
 use Rattle.opus.specs.Answers.{answerOf}
 use Rattle.opus.specs.declared.Packet.{Packet}
 use Rattle.opus.proofs.Lent.{packetWith, lent-accepted}
 use Rattle.packet_pad.proofs.Framed.{Lies, lies}
-use Rattle.packet_pad.proofs.Calls.{meets, pad-read, pad-refused}
+use Rattle.opus_defines.proofs.Outcomes.{meets}
+use Rattle.packet_pad.proofs.Calls.{pad-read, pad-refused}
 use Rattle.packet_pad.proofs.pad_packet.Statement.{statement}
 use Rattle.packet_pad.proofs.pad_packet.Tie as tie
 
@@ -45,14 +47,14 @@ returns c =
     let b = c .before .before in
     let t = b .before .before .before in
     let a = t .before .before .before .before .before .before .args in
-    meets (pad-read (a .«data» .now) (a .len) (read t) (lying t) (a .new-len)) refl (b .pad-frames .ensures)
+    meets (ap (leaves (a .«data» .now)) (pad-read (a .«data» .now) (a .len) (read t) (lying t) (a .new-len))) refl (b .pad-frames .ensures)
 
 returns-2 : tie.Need-returns-2
 returns-2 c =
     let r = c .before .before .before .read-into in
     let s = c .before .before .before .before .before .before .before in
     let a = s .args in
-    meets (pad-refused (a .«data» .now) (a .len) (answerOf (r .result) (r .last .1 .1 .0)) (r .ensures) _ (c .before .v .given .1) (omega (arith, s .pre)) (a .new-len)) refl refl
+    meets (ap (leaves (a .«data» .now)) (pad-refused (a .«data» .now) (a .len) (answerOf (r .result) (r .last .1 .1 .0)) (r .ensures) _ (c .before .v .given .1) (omega (arith, s .pre)) (a .new-len))) refl refl
 
 pub pad-packet-spec : {M : Type 1} → statement M
 pad-packet-spec =

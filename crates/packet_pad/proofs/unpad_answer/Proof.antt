@@ -1,53 +1,39 @@
--- `packet_pad::unpad_answer` meets its contract: by the sign of the length and the tests on it.
+-- `packet_pad::unpad_answer` meets its contract: by the length.
 -- Assumes nothing.
+use native.Mathlib.Omega.{arith}
 use mathlib.Core.Path.{_≡_, refl}
 use borrow.Author.Needs.{needs}
-use Rattle.opus_defines.specs.Numbers.{countOf}
-use Rattle.opus_defines.specs.declared.Count.the-variants.{Is}
-use Rattle.opus_defines.proofs.Counts.{counted}
-use Rattle.packet_pad.proofs.Calls.{meets, within, unpad-negative, unpad-over, unpad-none, unpad-within}
+use Rattle.opus_defines.proofs.Outcomes.{meets}
+use Rattle.packet_pad.specs.Lengths.{lengthOf}
+use Rattle.packet_pad.proofs.Given.{length-told, length-within}
+use Rattle.packet_pad.proofs.Calls.{unpad-none, unpad-some}
 use Rattle.packet_pad.proofs.unpad_answer.Statement.{statement}
 use Rattle.packet_pad.proofs.unpad_answer.Tie as tie
 
+told : (c : tie.After-length-of) → let a = c .before .before .before .args in lengthOf (a .«data» .now) (a .len) ≡ c .length-of .result
+told c =
+    let s = c .before .before .before in
+    length-told (s .args .«data» .now) (s .args .len) (s .fits .len) (c .length-of .ensures)
+
 returns : tie.Need-returns
 returns c =
-    let b = c .before .before in
-    let s = b .before .before in
-    meets (unpad-negative (s .args .«data» .now) (s .args .len) (counted (s .args .len) (s .fits .len) (b .count-of .ensures .0) (c .enum-told .given .1))) refl refl
-
-natural : (c : tie.After-known-told) → countOf (c .before .before .before .before .before .args .len) ≡ Is (c .before .n .given .0 .0)
-natural c =
-    let b = c .before .before .before in
-    let s = b .before .before in
-    counted (s .args .len) (s .fits .len) (b .count-of .ensures .0) (c .before .n .given .1)
-
-returns-2 : tie.Need-returns-2
-returns-2 c =
-    let k = c .before .before .before in
-    let a = k .before .before .before .before .before .args in
-    meets (unpad-over (a .«data» .now) (a .len) _ (natural k) (c .before .is-over .ensures) (c .if1 .taken)) refl refl
-
-returns-3 : tie.Need-returns-3
-returns-3 c =
-    let i = c .before in
-    let k = i .before .before .before in
-    let a = k .before .before .before .before .before .args in
-    meets (unpad-none (a .«data» .now) (a .len) _ (natural k) (i .before .is-over .ensures) (i .if1 .left) (c .if2 .taken)) refl refl
+    let t = c .before in
+    let a = t .before .before .before .args in
+    meets (unpad-none (a .«data» .now) (a .len) _ (told t) (c .if1 .taken)) refl refl
 
 unpad-packet-requires : tie.Need-unpad-packet-requires
 unpad-packet-requires c κs =
-    let i = c .before .before in
-    let k = i .before .before .before in
-    within (k .before .before .before .before .before .args .«data» .now) (k .before .n .given .0 .0) (i .before .is-over .ensures) (i .if1 .left)
+    let t = c .before .before in
+    let a = t .before .before .before .args in
+    let w = length-within (a .«data» .now) (a .len) in
+    (omega (arith, w, told t), omega (arith, w, told t))
 
-returns-4 : tie.Need-returns-4
-returns-4 c =
+returns-2 : tie.Need-returns-2
+returns-2 c =
     let p = c .before .before in
-    let e = p .before .before in
-    let i = e .before in
-    let k = i .before .before .before in
-    let a = k .before .before .before .before .before .args in
-    meets (unpad-within (a .«data» .now) (a .len) _ (natural k) (i .before .is-over .ensures) (i .if1 .left) (e .if2 .left)) (p .unpad-packet .ensures .0) (p .unpad-packet .ensures .1)
+    let i = p .before .before in
+    let a = i .before .before .before .before .args in
+    meets (unpad-some (a .«data» .now) (a .len) _ (told (i .before)) (i .if1 .left)) (p .unpad-packet .ensures .0) (p .unpad-packet .ensures .1)
 
 pub unpad-answer-spec : {M : Type 1} → statement M
 unpad-answer-spec =
@@ -55,13 +41,7 @@ unpad-answer-spec =
     (tie.spec
     (λ c κs. search needs)
     (λ c. search needs)
-    (λ c. search needs)
     returns
-    (λ c κs. search needs)
-    (λ c. search needs)
-    returns-2
-    (λ c. search needs)
-    returns-3
     unpad-packet-requires
     (λ c. search needs)
-    returns-4)
+    returns-2)

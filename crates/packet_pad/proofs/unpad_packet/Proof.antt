@@ -6,11 +6,13 @@ use mathlib.Core.Bool.{false}
 use lib.IntN.{pos}
 use lib.Seq.{length-take-le}
 use borrow.Author.Needs.{needs}
+use Rattle.opus_defines.specs.Outcome.{leaves}
 use Rattle.opus.specs.Answers.{answerOf}
 use Rattle.opus.specs.declared.Packet.{Packet}
 use Rattle.opus.proofs.Lent.{packetWith, lent-accepted}
 use Rattle.packet_pad.proofs.Framed.{Lies, lies}
-use Rattle.packet_pad.proofs.Calls.{meets, unpad-read, unpad-refused}
+use Rattle.opus_defines.proofs.Outcomes.{meets}
+use Rattle.packet_pad.proofs.Calls.{unpad-read, unpad-refused}
 use Rattle.packet_pad.proofs.unpad_packet.Statement.{statement}
 use Rattle.packet_pad.proofs.unpad_packet.Tie as tie
 
@@ -54,14 +56,14 @@ returns c =
     let t = b .before .before .before in
     let s = t .before .before .before .before .before .before in
     let a = s .args in
-    meets (unpad-read (a .«data» .now) (a .len) (read t) (lying t)) (ap pos (b .unpad-frames .ensures .1)) (b .unpad-frames .ensures .0)
+    meets (ap (leaves (a .«data» .now)) (unpad-read (a .«data» .now) (a .len) (read t) (lying t))) (ap pos (b .unpad-frames .ensures .1)) (b .unpad-frames .ensures .0)
 
 returns-2 : tie.Need-returns-2
 returns-2 c =
     let r = c .before .before .before .read-into in
     let s = c .before .before .before .before .before .before .before in
     let a = s .args in
-    meets (unpad-refused (a .«data» .now) (a .len) (answerOf (r .result) (r .last .1 .1 .0)) (r .ensures) _ (c .before .v .given .1) (s .pre .1)) refl refl
+    meets (ap (leaves (a .«data» .now)) (unpad-refused (a .«data» .now) (a .len) (answerOf (r .result) (r .last .1 .1 .0)) (r .ensures) _ (c .before .v .given .1) (s .pre .1))) refl refl
 
 pub unpad-packet-spec : {M : Type 1} → statement M
 unpad-packet-spec =

@@ -1,11 +1,14 @@
 -- `repacketizer::add_packet` meets its contract: what was read of one frame or two is added, and any other packet is read whole.
 -- Assumes nothing.
+use mathlib.Core.Path.{sym, ap, _∙_}
 use mathlib.Core.Bool.{false}
 use mathlib.Core.List.{[], _∷_}
 use native.Mathlib.Omega.{arith}
 use borrow.Author.Needs.{needs}
 use Rattle.laws.specs.Bytes.{Bytes}
+use Rattle.opus_defines.specs.declared.Refusal.{Refusal}
 use Rattle.opus.proofs.AtShort.{ShortRead, one-read, two-read, none-read}
+use Rattle.repacketizer.specs.Adding.{noAdd}
 use Rattle.repacketizer.specs.Parts.{collectorOf}
 use Rattle.repacketizer.proofs.Adds.{add-long, add-refused, add-read, refused-as}
 use Rattle.repacketizer.proofs.add_packet.Statement.{statement}
@@ -84,13 +87,16 @@ returns-4 c =
 
 returns-5 : tie.Need-returns-5
 returns-5 c =
-    let k = c .before .before .before in
+    let t = c .before .before .before in
+    let k = t .before .before in
     let i = k .before in
     let v = i .before .before .before in
     let a = v .before .before .args in
     let rp = collectorOf (a .h) (a .len .now) in
-    let bad = none-read (a .«data» .now) (bytes v) (k .short-at .result) (k .short-at .ensures) (c .before .enum-told .given .1) in
-    rw (i .if2 .left) (refused-as (add-refused false rp (a .«data» .now) (a .store .now) (bad .0) (i .before .if1 .left) (bad .1)) (c .refused-add2 .ensures))
+    let bad = none-read (a .«data» .now) (bytes v) (k .short-at .result) (k .short-at .ensures) _ (t .s3 .given .1) in
+    let same = ap (λ (x : Refusal). noAdd x rp (a .store .now)) (sym (c .before .rule-refusal .ensures)) in
+    rw (i .if2 .left)
+    (refused-as (add-refused false rp (a .«data» .now) (a .store .now) _ (i .before .if1 .left) bad ∙ same) (c .refused-add2 .ensures))
 
 returns-6 : tie.Need-returns-6
 returns-6 c =
@@ -115,6 +121,7 @@ add-packet-spec =
     shared-slice-read-add-two
     add-two-requires
     (λ c. search needs)
+    (λ c κs. search needs)
     (λ c κs. search needs)
     (λ c. search needs)
     (λ c κs. search needs)

@@ -14,18 +14,6 @@ use Rattle.repacketizer.proofs.Adds.{add-read, refused-as}
 use Rattle.repacketizer.proofs.add_read.Statement.{statement}
 use Rattle.repacketizer.proofs.add_read.Tie as tie
 
-returns : tie.Need-returns
-returns c =
-    let r = c .before .before .before in
-    let s = r .before .before .before .before .before in
-    let a = s .args in
-    let lent = r .read-into .last .1 .1 .0 in
-    let bad = c .before .enum-told2 .given .1 in
-    let rp = collectorOf (a .h) (a .len .now) in
-    refused-as
-    (lent-refused (a .self-delimited) (a .«data» .now) (r .read-into .result) lent (r .read-into .ensures) (s .pre .1) bad rp (a .store .now))
-    (c .refused-add .ensures)
-
 -- what was read of an accepted packet
 reading : (c : tie.After-enum-told)
     → let r = c .before .before in
@@ -53,8 +41,8 @@ add-block-requires c κs =
     let f = facts (s .args .self-delimited) (s .args .«data» .now) (q .toc) (lengthsOf q) (q .first) (q .taken) bytes (reading t .means) in
     (s .pre .0, (f .some, f .few, f .small, omega (arith, f .block, f .within)))
 
-returns-2 : tie.Need-returns-2
-returns-2 c =
+returns : tie.Need-returns
+returns c =
     let b = c .before .before .before .before in
     let t = b .before .before .before .before in
     let r = t .before .before in
@@ -64,6 +52,18 @@ returns-2 c =
     rw (add-read (a .self-delimited) rp (a .«data» .now) (a .store .now) (q .toc) (lengthsOf q) (q .first) (q .taken) (reading t .short) (reading t .means))
     (b .add-block .ensures)
 
+returns-2 : tie.Need-returns-2
+returns-2 c =
+    let v = c .before .before in
+    let r = v .before .before in
+    let s = r .before .before .before .before .before in
+    let a = s .args in
+    let lent = r .read-into .last .1 .1 .0 in
+    let rp = collectorOf (a .h) (a .len .now) in
+    refused-as
+    (lent-refused (a .self-delimited) (a .«data» .now) (r .read-into .result) lent (r .read-into .ensures) (s .pre .1) (v .v .given .1) rp (a .store .now))
+    (c .refused-add .ensures)
+
 pub add-read-spec : {M : Type 1} → statement M
 add-read-spec =
     tie.close
@@ -71,11 +71,11 @@ add-read-spec =
     (λ c κs. search needs)
     (λ c. search needs)
     (λ c. search needs)
-    (λ c κs. search needs)
-    returns
     array-share-prefix-lengths
     slice-aggregate-add-block
     add-block-requires
     (λ c. search needs)
     (λ c. search needs)
+    returns
+    (λ c κs. search needs)
     returns-2)

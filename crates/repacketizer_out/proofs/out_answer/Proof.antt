@@ -13,7 +13,9 @@ use Rattle.repacketizer.specs.Collector.{held, sound}
 use Rattle.repacketizer.specs.Parts.{collectorOf}
 use Rattle.repacketizer.proofs.Checks.{checked-sound}
 use Rattle.repacketizer_out.specs.Output.{outFrames, outRange}
-use Rattle.repacketizer_out.proofs.Outputs.{answered, refused-as, out-unsound, out-tight}
+use Rattle.opus_defines.specs.Outcome.{leaves}
+use Rattle.opus_defines.proofs.Outcomes.{meets}
+use Rattle.repacketizer_out.proofs.Outputs.{refused-as, out-unsound, out-tight}
 use Rattle.repacketizer_out.proofs.Outputs.{out-long, out-sound, frames-before, frames-under, frames-natural}
 use Rattle.repacketizer_out.proofs.out_answer.Statement.{statement}
 use Rattle.repacketizer_out.proofs.out_answer.Tie as tie
@@ -56,7 +58,7 @@ ready : (c : tie.Else3)
     → let a = c .before .before .before .before .before .before .before .before .args in
     let r = taken (c .before .before .before .before) in
     outRange (a .self-delimited) (a .pad) r (a .store .now) (a .begin) (a .end) (a .«data» .now)
-    ≡ outFrames (a .self-delimited) (a .pad) (upperSix (r .toc)) (held r (a .store .now)) (a .begin) (a .end) (a .«data» .now)
+    ≡ leaves (a .«data» .now) (outFrames (a .self-delimited) (a .pad) (upperSix (r .toc)) (held r (a .store .now)) (a .begin) (a .end) (length (a .«data» .now)))
 ready c =
     let a = c .before .before .before .before .before .before .before .before .args in
     let r = taken (c .before .before .before .before) in
@@ -106,8 +108,8 @@ returns-6 c =
     let r = taken (n .before .before .before .before .before) in
     let begins = is-natural (a .begin) _ (counted (a .begin) (s .fits .begin) (n .count-of .ensures .0) (b .b .given .1)) in
     let ends = is-natural (a .end) _ (counted (a .end) (s .fits .end) (m .count-of2 .ensures .0) (e .e .given .1)) in
-    answered (ready (n .before) ∙ frames-natural (a .self-delimited) (a .pad) (upperSix (r .toc)) (held r (a .store .now)) (a .«data» .now) begins ends)
-    (f .out-frames .ensures)
+    meets (ready (n .before) ∙ frames-natural (a .self-delimited) (a .pad) (upperSix (r .toc)) (held r (a .store .now)) (a .«data» .now) begins ends)
+    (f .out-frames .ensures .0) (f .out-frames .ensures .1)
 
 pub out-answer-spec : {M : Type 1} → statement M
 out-answer-spec =

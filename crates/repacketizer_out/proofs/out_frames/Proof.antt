@@ -13,7 +13,8 @@ use Rattle.repacketizer.specs.Collector.{held}
 use Rattle.repacketizer.specs.Parts.{collectorOf}
 use Rattle.repacketizer.proofs.Held.{Holding, holding}
 use Rattle.repacketizer_out.proofs.Ranges.{Part, part-of, part-from}
-use Rattle.repacketizer_out.proofs.Outputs.{answered, refused-as, frames-none, held-past, held-within}
+use Rattle.opus_defines.proofs.Outcomes.{meets}
+use Rattle.repacketizer_out.proofs.Outputs.{refused-as, frames-none, held-past, held-within}
 use Rattle.repacketizer_out.proofs.out_frames.Statement.{statement}
 use Rattle.repacketizer_out.proofs.out_frames.Tie as tie
 
@@ -73,7 +74,8 @@ returns-3 c =
     let i = w .before .before .before .before in
     let s = i .before .before .before .before .before .before in
     let a = s .args in
-    answered (held-within (a .self-delimited) (a .pad) (collectorOf (a .h) (a .len .now)) (a .store .now) (a .«data» .now) (holds s) (a .begin) (a .end) (i .before .if1 .left) (within i) (from w)) (f .put-frames .ensures)
+    meets (held-within (a .self-delimited) (a .pad) (collectorOf (a .h) (a .len .now)) (a .store .now) (a .«data» .now) (holds s) (a .begin) (a .end) (i .before .if1 .left) (within i) (from w))
+    (f .put-frames .ensures .0) (f .put-frames .ensures .1)
 
 pub out-frames-spec : {M : Type 1} → statement M
 out-frames-spec =

@@ -5,7 +5,7 @@ use Rattle.opus_parts.proofs.frames_at.equal_frames.Statement.{statemen
 use Rattle.opus_parts.proofs.frames_at.equal_frames.Tie as tie
 
 returns : tie.Need-returns
-returns c = rw (c .before .before .if1 .taken) (c .own-equal .ensures)
+returns c = rw (c .before .before .if1 .taken) (c .own-equal .ensures (c .before .before .before .before .args .rule))
 
 returns-2 : tie.Need-returns-2
 returns-2 c = rw (c .before .before .if1 .left) (c .shared-equal .ensures)

@@ -12,7 +12,7 @@ returns c =
     let b = c .before .before in
     let a = b .before .before .args in
     let p = b .before .before .pre in
-    own-short (a .s .now) (a .k) (a .next) (a .sum) (a .lengths .now) (p .0) (p .1 .1)
+    λ r. own-short (a .s .now) (a .k) r (a .next) (a .sum) (a .lengths .now) (p .0) (p .1 .1)
     (short-was _ _ (sym (b .size-at .ensures) ∙ c .enum-told .given .1)) _
 
 sub-if1 : tie.Need-sub-if1
@@ -25,7 +25,7 @@ returns-2 c =
     let b = c .before .before .before in
     let a = b .before .before .before .before .args in
     let p = b .before .before .before .before .pre in
-    own-over (a .s .now) (a .k) (a .next) (a .sum) (a .lengths .now) (p .0) (p .1 .1) _ _ _
+    λ r. own-over (a .s .now) (a .k) r (a .next) (a .sum) (a .lengths .now) (p .0) (p .1 .1) _ _ _
     (whole-was _ _ _ _ (sym (b .before .before .size-at .ensures) ∙ b .size .given .1)) (c .before .wide .ensures .0) (c .if1 .taken) _
 
 returns-3 : tie.Need-returns-3
@@ -33,7 +33,7 @@ returns-3 c =
     let b = c .before .before .before in
     let a = b .before .before .before .before .args in
     let p = b .before .before .before .before .pre in
-    own-read (a .s .now) (a .k) (a .next) (a .sum) (a .lengths .now) (p .0) (p .1 .1) _ _ _
+    λ r. own-read (a .s .now) (a .k) r (a .next) (a .sum) (a .lengths .now) (p .0) (p .1 .1) _ _ _
     (whole-was _ _ _ _ (sym (b .before .before .size-at .ensures) ∙ b .size .given .1)) (c .before .wide .ensures .0) (p .1 .0) (c .if1 .left)
 
 pub own-last-spec : {M : Type 1} → statement M

@@ -15,13 +15,13 @@ returns : tie.Need-returns
 returns c =
     let a = c .before .args in
     let p = c .before .pre in
-    rest-long (a .s .now) (a .k) (a .next) (a .sum) (a .lengths .now) (p .0) (p .1 .1) (c .if1 .taken) _
+    λ r. rest-long (a .s .now) (a .k) r (a .next) (a .sum) (a .lengths .now) (p .0) (p .1 .1) (c .if1 .taken) _
 
 returns-2 : tie.Need-returns-2
 returns-2 c =
     let a = c .before .args in
     let p = c .before .pre in
-    rest-read (a .s .now) (a .k) (a .next) (a .sum) (a .lengths .now) (p .0) (p .1 .1) (p .1 .0) (c .if1 .left)
+    λ r. rest-read (a .s .now) (a .k) r (a .next) (a .sum) (a .lengths .now) (p .0) (p .1 .1) (p .1 .0) (c .if1 .left)
 
 pub rest-last-spec : {M : Type 1} → statement M
 rest-last-spec =

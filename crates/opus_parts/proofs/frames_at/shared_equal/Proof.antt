@@ -6,18 +6,18 @@ use Rattle.opus_parts.proofs.frames_at.shared_equal.Statement.{statemen
 use Rattle.opus_parts.proofs.frames_at.shared_equal.Tie as tie
 
 returns : tie.Need-returns
-returns c = let a = c .before .before .args in shared-uneven (a .s .now) (a .count) (c .if1 .taken) _
+returns c = let a = c .before .before .args in shared-uneven (a .s .now) (a .count) (a .rule) (c .if1 .taken) _
 
 returns-2 : tie.Need-returns-2
 returns-2 c =
     let a = c .before .before .before .args in
-    shared-long (a .s .now) (a .count) (c .before .if1 .left) (c .if2 .taken) _
+    shared-long (a .s .now) (a .count) (a .rule) (c .before .if1 .left) (c .if2 .taken) _
 
 returns-3 : tie.Need-returns-3
 returns-3 c =
     let b = c .before .before in
     let a = b .before .before .before .args in
-    shared-read (a .s .now) (a .count) (b .before .if1 .left) _ (c .same-lengths .ensures) (b .if2 .left)
+    shared-read (a .s .now) (a .count) (a .rule) (b .before .if1 .left) _ (c .same-lengths .ensures) (b .if2 .left)
 
 pub shared-equal-spec : {M : Type 1} → statement M
 shared-equal-spec =

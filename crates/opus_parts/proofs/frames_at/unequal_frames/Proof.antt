@@ -10,7 +10,7 @@ returns : tie.Need-returns
 returns c =
     let b = c .before .before in
     let a = b .before .before .before .args in
-    frames-cut (a .s .now) (a .k) (a .self-delimited) (sym (c .enum-told .given .1) ∙ b .read-sizes .ensures .0) _
+    frames-cut (a .s .now) (a .k) (a .rule) (a .self-delimited) (sym (c .enum-told .given .1) ∙ b .read-sizes .ensures .0) _
 
 sub-if1 : tie.Need-sub-if1
 sub-if1 c =
@@ -24,7 +24,7 @@ returns-2 c =
     let f = c .before .before .f in
     let b = c .before .before .before .before in
     let a = b .before .before .before .args in
-    frames-over (a .s .now) (a .k) _ _ _ (sym (f .given .1) ∙ b .read-sizes .ensures .0, b .read-sizes .ensures .1) (a .self-delimited) (c .if1 .taken) _
+    frames-over (a .s .now) (a .k) (a .rule) _ _ _ (sym (f .given .1) ∙ b .read-sizes .ensures .0, b .read-sizes .ensures .1) (a .self-delimited) (c .if1 .taken) _
 
 own-last-requires : tie.Need-own-last-requires
 own-last-requires c κs =
@@ -39,10 +39,16 @@ rest-last-requires c κs =
     ((sym (i .before .before .f .given .1) ∙ b .read-sizes .ensures .0, b .read-sizes .ensures .1), (search needs, i .if1 .left))
 
 returns-3 : tie.Need-returns-3
-returns-3 c = rw (c .before .before .if2 .taken) (c .own-last .ensures)
+returns-3 c =
+    let i = c .before .before in
+    let b = i .before .before .before .before in
+    rw (i .if2 .taken) (c .own-last .ensures (b .before .before .before .before .args .rule))
 
 returns-4 : tie.Need-returns-4
-returns-4 c = rw (c .before .before .if2 .left) (c .rest-last .ensures)
+returns-4 c =
+    let i = c .before .before in
+    let b = i .before .before .before .before in
+    rw (i .if2 .left) (c .rest-last .ensures (b .before .before .before .before .args .rule))
 
 pub unequal-frames-spec : {M : Type 1} → statement M
 unequal-frames-spec =
