@@ -3,12 +3,12 @@
 use mathlib.Core.Path.{_≡_, refl, sym, ap, _∙_}
 use mathlib.Core.Logic.{_≢_}
 use mathlib.Core.List.{List, [], _∷_, _++_}
-use Prim.Native.Nat.{ℕ, zero, suc, _+_, _≤_, _<_}
-use native.Mathlib.Nat.{add-zero, zero-add, add-suc, suc-add, not-suc-le-zero}
+use Prim.Native.Nat.{ℕ, zero, suc, _+_, _-_, _≤_, _<_}
+use native.Mathlib.Nat.{add-zero, zero-add, add-suc, suc-add, not-suc-le-zero, sub-zero, zero-sub, suc-sub-suc}
 use native.Mathlib.Numerals.{add-one}
 use native.Mathlib.Omega.{arith}
 use lib.ListN.{length, take, drop, getD, set, replicate, length-take, length-drop, length-set, length-replicate, replicate-append-replicate}
-use lib.Seq.{sets, sets-eq, take-append-seam, drop-append-seam, take-suc, getD-set-same, getD-set-other, getD-drop, set-comm, set-getD, set-set, take-add, drop-drop}
+use lib.Seq.{sets, sets-eq, take-append-seam, drop-append-seam, take-suc, getD-set-same, getD-set-other, getD-drop, set-comm, set-getD, set-set, take-add, drop-drop, drop-set-lt, take-nil}
 use Rattle.blocks.specs.Blocks.{part, moved, filled, copied}
 
 -- two runs, one after the other, are one run
@@ -53,10 +53,6 @@ sets-again l at (u ∷ us) vs =
     let t : at < suc at = omega arith in
     rw (set-sets (set l at u) at u (suc at) (us ++ vs) t, set-set) (sets-again (set l at u) (suc at) us vs)
 
--- a run's first element may be what stands there
-pub sets-kept : (l : List ℕ) (at : ℕ) (vs : List ℕ) → sets l at (getD l at 0 ∷ vs) ≡ sets l (suc at) vs
-sets-kept l at vs = ap (λ (m : List ℕ). sets m (suc at) vs) (set-getD l at 0)
-
 -- what a run leaves before it
 pub sets-before : (l : List ℕ) (at : ℕ) (vs : List ℕ) (k d : ℕ) → k < at → getD (sets l at vs) k d ≡ getD l k d
 sets-before l at [] k d h = refl
@@ -98,11 +94,6 @@ take-sets l vs h =
     let fits : 0 + length vs ≤ length l = omega arith in
     rw (sets-eq vs l 0 fits) (take-append-seam vs (drop (0 + length vs) l))
 
-pub drop-sets : (l vs : List ℕ) → length vs ≤ length l → drop (length vs) (sets l 0 vs) ≡ drop (length vs) l
-drop-sets l vs h =
-    let fits : 0 + length vs ≤ length l = omega arith in
-    rw (sets-eq vs l 0 fits) (drop-append-seam vs (drop (0 + length vs) l) ∙ rw zero-add)
-
 -- ---- a turn of each loop
 
 -- a store right after a run makes the run longer
@@ -119,8 +110,13 @@ filled-next s from i v = rw (← replicate-append-replicate i 1 v) (sets-next s 
 
 -- ---- the same as the parts of a list, for a caller that goes by `take`, `drop` and `++`
 
-pub moved-eq : (s : List ℕ) (from to n : ℕ) → to + n ≤ length s → from + n ≤ length s → moved s from to n ≡ take to s ++ part s from n ++ drop (to + n) s
-moved-eq s from to n h k =
-    let e : length (part s from n) ≡ n = length-part s from n k in
-    let fits : to + length (part s from n) ≤ length s = omega arith in
-    rw e at (sets-eq {A = ℕ} (part s from n) s to fits)
+pub drop-sets-past : (s : List ℕ) (at : ℕ) (vs : List ℕ) (n : ℕ) → at + length vs ≤ n → drop n (sets s at vs) ≡ drop n s
+drop-sets-past s at [] n h = refl
+drop-sets-past s at (v ∷ vs) n h =
+    rw (drop-sets-past (set s at v) (suc at) vs n (omega arith)) (drop-set-lt n s at v (omega arith))
+
+pub drop-take : (k m : ℕ) (l : List ℕ) → drop k (take m l) ≡ take (m - k) (drop k l)
+drop-take zero m l = rw sub-zero
+drop-take (suc k) zero l = rw zero-sub
+drop-take (suc k) (suc m) [] = sym (take-nil (suc m - suc k))
+drop-take (suc k) (suc m) (x ∷ l) = rw suc-sub-suc (drop-take k m l)

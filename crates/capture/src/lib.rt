@@ -8,6 +8,7 @@ ghost use lib.ListN.{length, drop};
 ghost use Rattle.capture.specs.Finding.{packetLength, packetAt, recordFrom, nextRecord};
 use opus_defines::Refusal;
 use opus_defines::Verdict;
+use opus_defines::wide_byte;
 
 // The bytes of a record before its packet.
 pub const HEAD_BYTES: usize = 5;
@@ -28,12 +29,6 @@ pub struct NextRecord {
     pub passed: usize,
 }
 
-fn wide(b: u8) -> usize
-    ensures { λ r. ⌜ (r ≡ b) × (r < 256) ⌝ }
-{
-    b as usize
-}
-
 // The bytes of the packet of the record that stands at a place; 0 where none does.
 pub fn packet_length(data: &[u8], at: usize) -> usize
     ensures { λ r. ⌜ r ≡ packetLength (drop at (now («data» .entry))) ⌝ }
@@ -51,7 +46,7 @@ pub fn packet_length(data: &[u8], at: usize) -> usize
     if data[at + 1] != 0x9D {
         return 0;
     }
-    let n = 256 * wide(data[at + 3]) + wide(data[at + 4]);
+    let n = 256 * wide_byte(data[at + 3]) + wide_byte(data[at + 4]);
     if left - HEAD_BYTES < n {
         return 0;
     }

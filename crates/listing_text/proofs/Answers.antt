@@ -32,7 +32,7 @@ use Rattle.opus.proofs.Parsed.{lengthsOf, parsed-accepted}
 use Rattle.opus_header.specs.Sums.{sumsOf}
 use Rattle.opus_header.specs.Forms.{compactBytes}
 use Rattle.opus_header.proofs.Forms.{compact-front, sums-few}
-use Rattle.packet_pad.proofs.Framed.{compact-needs}
+use Rattle.opus_header.proofs.Standing.{compact-needs}
 use Rattle.show.specs.Text.{refusal}
 use Rattle.show.proofs.Laid.{front-counts}
 use Rattle.show.proofs.Refusals.{refusal-passed, refusal-most}

@@ -15,6 +15,7 @@ ghost use Rattle.show.specs.Text.{decimal};
 ghost use Rattle.listing_text.specs.Listing.{line, frameLine, frameLines, times, sizes, packetText};
 ghost use Rattle.listing_text.specs.Listing.{listing as Listing·listing};
 use opus_defines::Verdict;
+use opus_defines::wide;
 
 // ---- lines
 
@@ -34,12 +35,6 @@ fn put_line(out: &mut [u8], at: usize, label: &[u8], n: usize) -> usize
 {
     let next = put_named(out, at, label, n);
     show::put_text(out, next, b"\n")
-}
-
-fn wide(x: u16) -> usize
-    ensures { λ r. ⌜ (r ≡ x) × (r < 65536) ⌝ }
-{
-    x as usize
 }
 
 // ---- a packet that was read

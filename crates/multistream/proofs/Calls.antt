@@ -20,6 +20,7 @@ use borrow.Author.Tests.{eq-eqb, ne-eqb}
 use borrow.Rule.Slice.PartAt.{part-to-end}
 use borrow.Rule.Slice.PartMut.{putMid}
 use Rattle.laws.proofs.Never.{never}
+use Rattle.blocks.proofs.Sets.{drop-take}
 use Rattle.opus_defines.specs.Outcome.{Effect, refusal, wrote, written, leaves, refuses}
 use Rattle.opus_defines.specs.declared.Refusal.{Refusal}
 use Rattle.opus_defines.specs.declared.Refusal.the-variants.{BadArg}
@@ -34,7 +35,7 @@ use Rattle.multistream.specs.Streams.{streamsOf, passStreams}
 use Rattle.multistream.specs.Pad.{behind, padLast, padStreams, streamsPadded}
 use Rattle.multistream.specs.Unpad.{Repacked, unread, repacked, repackStreams, repacks, unpadStreams, streamsUnpadded}
 use Rattle.multistream.specs.Parts.{verdictOf, packedOf}
-use Rattle.multistream.proofs.Lent.{put-back, sets-front, drop-take}
+use Rattle.multistream.proofs.Lent.{put-back, sets-front}
 
 -- ---- the number of streams, and the lengths
 module _ (s : List ℕ) (len new nb : ℤ) (k : ℕ) (e : streamsOf nb ≡ k) where

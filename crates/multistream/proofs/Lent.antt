@@ -2,16 +2,14 @@
 --     put-back           the buffer with the part put back
 --     sets-lent          a run of stores in the part is one in the buffer
 --     sets-front         which is one from the front on with what stands before it
---     drop-sets-past     what is past a run is as it was
---     drop-take          the end of a part
 -- Assumes nothing.
-use Prim.Native.Nat.{ℕ, zero, suc, _+_, _-_, _≤_}
-use native.Mathlib.Nat.{add-suc, add-zero, sub-zero, zero-sub, suc-sub-suc}
+use Prim.Native.Nat.{ℕ, suc, _+_, _-_, _≤_}
+use native.Mathlib.Nat.{add-suc, add-zero}
 use native.Mathlib.Omega.{arith}
-use mathlib.Core.Path.{_≡_, refl, sym}
+use mathlib.Core.Path.{_≡_}
 use mathlib.Core.List.{List, [], _∷_, _++_, append-nil}
 use lib.ListN.{length, take, drop, set, length-drop, drop-of-length-le, take-append-drop}
-use lib.Seq.{sets, sets-eq, length-take-le, drop-set-add, drop-set-lt, take-set-le, take-nil}
+use lib.Seq.{sets, sets-eq, length-take-le, drop-set-add, take-set-le}
 use borrow.Rule.Slice.PartMut.{putMid}
 use Rattle.blocks.proofs.Sets.{sets-append}
 
@@ -36,14 +34,3 @@ sets-front s at vs h =
     let place : 0 + at ≡ at = omega arith in
     let own : sets s 0 (take at s) ≡ s = rw (long, place, take-append-drop at s) at (sets-eq (take at s) s 0 (omega arith)) in
     rw (sets-append s 0 (take at s) vs, own, long, place) (rw add-zero at (sets-behind s at 0 vs))
-
-pub drop-sets-past : (s : List ℕ) (at : ℕ) (vs : List ℕ) (n : ℕ) → at + length vs ≤ n → drop n (sets s at vs) ≡ drop n s
-drop-sets-past s at [] n h = refl
-drop-sets-past s at (v ∷ vs) n h =
-    rw (drop-sets-past (set s at v) (suc at) vs n (omega arith)) (drop-set-lt n s at v (omega arith))
-
-pub drop-take : (k m : ℕ) (l : List ℕ) → drop k (take m l) ≡ take (m - k) (drop k l)
-drop-take zero m l = rw sub-zero
-drop-take (suc k) zero l = rw zero-sub
-drop-take (suc k) (suc m) [] = sym (take-nil (suc m - suc k))
-drop-take (suc k) (suc m) (x ∷ l) = rw suc-sub-suc (drop-take k m l)

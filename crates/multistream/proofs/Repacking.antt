@@ -23,8 +23,7 @@ use borrow.Rule.Slice.PartMut.{putMid}
 use Rattle.laws.specs.Bytes.{Bytes}
 use Rattle.laws.proofs.Bytes.{bytes-drop, bytes-take}
 use Rattle.laws.proofs.Never.{never, by-test}
-use Rattle.blocks.specs.Blocks.{part}
-use Rattle.blocks.proofs.Sets.{sets-append}
+use Rattle.blocks.proofs.Sets.{sets-append, drop-sets-past, drop-take}
 use Rattle.opus_defines.specs.declared.Verdict.the-variants.{Accepted}
 use Rattle.opus_toc.specs.Toc.{upperSix}
 use Rattle.opus_format.specs.Frames.{cut, total}
@@ -33,11 +32,8 @@ use Rattle.opus.specs.Answers.{packetOf, parsed, answerOf}
 use Rattle.opus.specs.declared.Packet.{Packet}
 use Rattle.opus.specs.declared.PacketHead.{PacketHead}
 use Rattle.opus.proofs.Lent.{packetWith, lent-accepted}
-use Rattle.opus_format.proofs.Frames.{lengths-cut, joined-cut}
+use Rattle.opus_header.specs.Header.{compactHeader}
 use Rattle.opus_header.specs.Compact.{compact}
-use Rattle.opus_header.specs.Forms.{compactForm, missing, formPacket}
-use Rattle.opus_header.specs.declared.Form.{Form}
-use Rattle.opus_header.proofs.Forms.{compact-missing, compact-formed}
 use Rattle.opus.proofs.Parsed.{lengthsOf}
 use Rattle.packet_pad.proofs.Framed.{Lies, lies}
 use Rattle.multistream.specs.declared.Places.{Places}
@@ -45,7 +41,7 @@ use Rattle.multistream.specs.Unpad.{Repacked, unread, repacked, ahead, r
 use Rattle.multistream.specs.Parts.{stream, compactBy, compactOf, takenBy, isAccepted, nextPlaces, verdictOf, packedOf}
 use Rattle.multistream.proofs.Bounds.{by-within}
 use Rattle.multistream.proofs.Passing.{ahead-verdict}
-use Rattle.multistream.proofs.Lent.{sets-lent, drop-sets-past, drop-take}
+use Rattle.multistream.proofs.Lent.{sets-lent}
 
 -- ---- one stream
 accepted-verdict : (sd : Bool) (p : List ℕ) (r : Packet) → r ≡ parsed sd p → length p ≤ 65535 → isAccepted (read sd p) ≡ true → r .verdict ≡ Accepted
@@ -91,29 +87,27 @@ module _ (sd : Bool) (s : List ℕ) (to from len : ℕ) (places : (to ≤ from) 
   block : first + total (lengthsOf r) ≤ length (drop to s)
   block = omega (arith, lying .within, length-drop to s)
 
-  module _ (form : Form) (f : form ≡ compactForm (r .count)) where
-    -- the frames stand where the code says
-    written : formPacket sd (upperSix (r .toc)) (lengthsOf r) form (part (drop to s) first (total (lengthsOf r))) ≡ compactOf sd (stream s from len)
-    written =
-        let ns = lengthsOf r in
-        let six = upperSix (r .toc) in
-        let place : to + first ≡ from + r .first = omega arith in
-        let count : length ns ≡ r .count = length-take-le (r .count) (r .lengths) (lying .inside) in
-        let there : drop first (drop to s) ≡ drop (r .first) (drop from s) = rw (drop-drop first to s, place, drop-drop (r .first) from s) in
-        let is = sym (rw (lengths-cut ns (drop first (drop to s)) (omega (arith, block, length-drop first (drop to s))), joined-cut ns (drop first (drop to s)), count) at (compact-formed sd six (cut ns (drop first (drop to s))))) in
-        rw (lying .means, lying .frames, f, ← there) is
+  -- the frames stand where the code says
+  written : compact sd (upperSix (r .toc)) (cut (lengthsOf r) (drop first (drop to s))) ≡ compactOf sd (stream s from len)
+  written =
+      let place : to + first ≡ from + r .first = omega arith in
+      let there : drop first (drop to s) ≡ drop (r .first) (drop from s) = rw (drop-drop first to s, place, drop-drop (r .first) from s) in
+      rw (there, lying .means, lying .frames)
 
-    -- of the part that is lent
-    pub rewrite-fits : (missing form ≤ 65535) × (first + total (lengthsOf r) ≤ length (take (length s - to) (drop to s))) × (length (formPacket sd (upperSix (r .toc)) (lengthsOf r) form (part (take (length s - to) (drop to s)) first (total (lengthsOf r)))) ≤ length (take (length s - to) (drop to s)))
-    rewrite-fits =
-        rw (part-to-end s to)
-        (rw f (omega (arith, compact-missing (r .count))), block, rw written (omega (arith, compact-fits, taken-fits, length-drop to s)))
+  -- of the part that is lent
+  pub rewrite-fits : (first + total (lengthsOf r) ≤ length (take (length s - to) (drop to s))) × (length (compactHeader sd (upperSix (r .toc)) (lengthsOf r)) ≤ first)
+  rewrite-fits = (rw (part-to-end s to) block, omega (arith, lying .short))
 
-    pub rewritten : {v : List ℕ} {n : ℕ} → let q = formPacket sd (upperSix (r .toc)) (lengthsOf r) form (part (take (length s - to) (drop to s)) first (total (lengthsOf r))) in v ≡ sets (take (length s - to) (drop to s)) 0 q → n ≡ length q → (putMid to (length s - to) s v ≡ sets s to (compactOf sd (stream s from len))) × (_≡_ {A = Places} (record { to = to + n; from = from + r .taken }) (nextPlaces to from sd (stream s from len))) × (to + n ≤ len)
-    rewritten a b =
-        let a′ = rw (part-to-end s to, written) at a in
-        let b′ = rw (part-to-end s to, written) at b in
-        (rw a′ (sets-lent s to (compactOf sd (stream s from len))), rw (b′, taken-is), omega (arith, compact-fits, taken-fits))
+  pub rewritten : {v : List ℕ} {n : ℕ}
+      → let d = take (length s - to) (drop to s) in
+      let q = compact sd (upperSix (r .toc)) (cut (lengthsOf r) (drop first d)) in
+      v ≡ sets d 0 q → n ≡ length q
+      → (putMid to (length s - to) s v ≡ sets s to (compactOf sd (stream s from len)))
+      × (_≡_ {A = Places} (record { to = to + n; from = from + r .taken }) (nextPlaces to from sd (stream s from len))) × (to + n ≤ len)
+  rewritten a b =
+      let a′ = rw (part-to-end s to, written) at a in
+      let b′ = rw (part-to-end s to, written) at b in
+      (rw a′ (sets-lent s to (compactOf sd (stream s from len))), rw (b′, taken-is), omega (arith, compact-fits, taken-fits))
 
 -- ---- one stream and those behind it
 -- where the verdict is good, the stream was read

@@ -155,11 +155,9 @@ fn repack_stream(
     let mut lengths = [0u16; 48];
     let p = opus::read_into(&data[from..len], self_delimited, &mut lengths);
     let n = p.count;
-    let ns = &lengths[..n];
-    let m = opus_header::sums_of(ns);
-    let form = opus_header::compact_form(n);
     let first = from - to + p.first;
-    let bytes = packet_pad::rewrite(&mut data[to..], p.toc, ns, m, form, self_delimited, first);
+    let ns = &lengths[..n];
+    let bytes = packet_pad::compact_frames(&mut data[to..], p.toc, ns, self_delimited, first);
     Places {
         to: to + bytes,
         from: from + p.taken,

@@ -15,13 +15,13 @@ ghost use Rattle.opus.specs.Heads.{noHead, headAt};
 use opus_defines::Refusal;
 use opus_defines::Rule;
 use opus_defines::Verdict;
+use opus_defines::wide;
 use opus_parts::frames_at::FramesAt;
 use opus_parts::frames_at::equal_frames;
 use opus_parts::frames_at::frames_3;
 use opus_parts::frames_at::unequal_frames;
 use opus_parts::padding_at::PaddingAt;
 use opus_parts::padding_at::read_padding;
-use opus_parts::sizes_at::wide;
 use opus_size::SizeAt;
 
 // The longest packet, in bytes.

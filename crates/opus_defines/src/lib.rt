@@ -80,6 +80,19 @@ pub fn verdict_number(n: u16, v: Verdict) -> i32
     }
 }
 
+// A number of 16 bits, and a byte, as sizes: a caller knows the bound, which a cast would not say.
+pub fn wide(x: u16) -> usize
+    ensures { λ r. ⌜ (r ≡ x) × (r < 65536) ⌝ }
+{
+    x as usize
+}
+
+pub fn wide_byte(x: u8) -> usize
+    ensures { λ r. ⌜ (r ≡ x) × (r < 256) ⌝ }
+{
+    x as usize
+}
+
 // A signed number taken apart.
 pub enum Count {
     Is(usize),

@@ -8,3 +8,4 @@ pub mod Shortest
 pub mod Rebuilt
 pub mod Filling
 pub mod Forms
+pub mod Standing

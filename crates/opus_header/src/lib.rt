@@ -12,6 +12,7 @@ ghost use Rattle.opus_format.specs.Format.{ownLength};
 ghost use Rattle.opus_header.specs.Header.{chain, padBytes, shortCode, fullFront};
 ghost use Rattle.opus_header.specs.Sums.{sumsOf, frontOf, headerOf};
 ghost use Rattle.opus_header.specs.Forms.{compactForm, formFor, frontBytes, headerBytes, compactBytes, missing};
+use opus_defines::wide;
 
 // What is counted of the lengths before anything is written.
 pub struct Sums {
@@ -26,12 +27,6 @@ pub struct Sums {
 pub enum Form {
     Short,
     Full(usize),
-}
-
-fn wide(x: u16) -> usize
-    ensures { λ r. ⌜ (r ≡ x) × (r < 65536) ⌝ }
-{
-    x as usize
 }
 
 // The bytes of a length's field.

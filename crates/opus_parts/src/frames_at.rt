@@ -10,8 +10,8 @@ ghost use Rattle.opus_parts.specs.Parts.{SizesRead, FramesRead};
 use crate::sizes_at::SizesAt;
 use crate::sizes_at::read_sizes;
 use crate::sizes_at::same_lengths;
-use crate::sizes_at::wide;
 use opus_defines::Rule;
+use opus_defines::wide;
 use opus_size::SizeAt;
 
 // The first frame's place in the slice and the sum of the lengths, or the rule that is broken.

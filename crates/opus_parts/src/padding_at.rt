@@ -4,18 +4,13 @@ ghost use Prim.Native.Nat.{_/_, _%_, _<_};
 ghost use lib.ListN.{length};
 ghost use Rattle.opus_format.specs.Reading.{readChain, readPadding};
 ghost use Rattle.opus_parts.specs.Parts.{paddingAt};
+use opus_defines::wide_byte;
 
 // The padding lengths at the front of a slice: how many padding bytes they say and the place behind them, or that the padding does
 // not fit the slice.
 pub enum PaddingAt {
     Whole(usize, usize),
     Unfit,
-}
-
-fn wide_byte(x: u8) -> usize
-    ensures { λ r. ⌜ (r ≡ x) × (r < 256) ⌝ }
-{
-    x as usize
 }
 
 // The chain is left as soon as its padding cannot fit any more, so that a long run of 255 costs little.

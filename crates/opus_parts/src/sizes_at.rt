@@ -6,13 +6,8 @@ ghost use lib.ListN.{replicate};
 ghost use Rattle.opus_format.specs.Reading.{readFields};
 ghost use Rattle.opus_format.specs.Frames.{padded48};
 ghost use Rattle.opus_parts.specs.Parts.{SizesRead};
+use opus_defines::wide;
 use opus_size::SizeAt;
-
-pub fn wide(x: u16) -> usize
-    ensures { λ r. ⌜ (r ≡ x) × (r < 65536) ⌝ }
-{
-    x as usize
-}
 
 // Several length fields at the front of a slice: the place behind them and the sum of the lengths, or that they are not all there.
 pub enum SizesAt {

@@ -41,7 +41,7 @@ fn move_block(data: &mut [u8], from: usize, to: usize, n: usize)
 }
 
 // Rewrites the frames of lengths `ns` that stand in `data` from place `first` on as a packet at its front, and answers its bytes.
-pub fn rewrite(
+fn rewrite(
     data: &mut [u8],
     toc: u8,
     ns: &[u16],
@@ -118,17 +118,24 @@ pub fn opus_packet_pad(data: &mut [u8], len: i32, new_len: i32) -> i32
     opus_defines::number_of(pad_answer(data, len, new_len))
 }
 
-// Frames of lengths `ns` at place `first` become the compact packet, whose header is no longer than the one that stands in front of them.
-fn unpad_frames(data: &mut [u8], toc: u8, ns: &[u16], first: usize) -> usize
+// Frames of lengths `ns` at place `first` become the compact packet, whose header is no longer than what stands in front of them.
+pub fn compact_frames(
+    data: &mut [u8],
+    toc: u8,
+    ns: &[u16],
+    self_delimited: bool,
+    first: usize,
+) -> usize
     requires some { ⌜ (1 ≤ length (now ns)) × (length (now ns) ≤ 48) × (longest (now ns) ≤ mostBytes) ⌝ }
     requires block { ⌜ first + total (now ns) ≤ length (now «data») ⌝ }
-    requires short { ⌜ length (compactHeader false (upperSix toc) (now ns)) ≤ first ⌝ }
-    ensures bytes { λ _. ⌜ now («data» .exit) ≡ sets (now («data» .entry)) 0 (compact false (upperSix toc) (cut (now (ns .entry)) (drop first (now («data» .entry))))) ⌝ }
-    ensures next { λ r. ⌜ r ≡ length (compact false (upperSix toc) (cut (now (ns .entry)) (drop first (now («data» .entry))))) ⌝ }
+    requires short { ⌜ length (compactHeader «self_delimited» (upperSix toc) (now ns)) ≤ first ⌝ }
+    ensures bytes { λ _. ⌜ now («data» .exit)
+        ≡ sets (now («data» .entry)) 0 (compact «self_delimited» (upperSix toc) (cut (now (ns .entry)) (drop first (now («data» .entry))))) ⌝ }
+    ensures next { λ r. ⌜ r ≡ length (compact «self_delimited» (upperSix toc) (cut (now (ns .entry)) (drop first (now («data» .entry))))) ⌝ }
 {
     let m = opus_header::sums_of(ns);
     let form = opus_header::compact_form(ns.len());
-    rewrite(data, toc, ns, m, form, false, first)
+    rewrite(data, toc, ns, m, form, self_delimited, first)
 }
 
 // The packet in the first `len` bytes, without padding and in compact form.
@@ -143,7 +150,7 @@ fn unpad_packet(data: &mut [u8], len: usize) -> Answer
     let Verdict::Refused(e) = v else {
         let n = p.count;
         let first = p.first;
-        let bytes = unpad_frames(data, p.toc, &lengths[..n], first);
+        let bytes = compact_frames(data, p.toc, &lengths[..n], false, first);
         return Answer::Number(bytes as u16);
     };
     Answer::Refused(e)

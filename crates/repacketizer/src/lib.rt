@@ -15,6 +15,7 @@ use opus::Short;
 use opus_defines::Answer;
 use opus_defines::Refusal;
 use opus_defines::Verdict;
+use opus_defines::wide;
 use opus_toc::Samples8k;
 
 // The least store, in bytes: 48 frames of 1275.
@@ -45,12 +46,6 @@ pub fn opus_repacketizer_init() -> OpusRepacketizer
         framesize: Samples8k(0),
         len: [0u16; 48],
     }
-}
-
-fn wide(x: u16) -> usize
-    ensures { λ r. ⌜ (r ≡ x) × (r < 65536) ⌝ }
-{
-    x as usize
 }
 
 // What one pass over lengths finds: the longest, and the sum modulo 65,536, which is the sum of lengths that a collector can hold.

@@ -19,6 +19,7 @@ ghost use Rattle.repacketizer_out.specs.Output.{output, outFrames, outRa
 use opus_defines::Answer;
 use opus_defines::Count;
 use opus_defines::Refusal;
+use opus_defines::wide;
 use opus_header::Form;
 use opus_header::Sums;
 use repacketizer::Head;
@@ -117,12 +118,6 @@ fn out_frames(
         self_delimited,
         pad,
     )
-}
-
-fn wide(x: u16) -> usize
-    ensures { λ r. ⌜ (r ≡ x) × (r < 65536) ⌝ }
-{
-    x as usize
 }
 
 // The same with range ends that may be anything, on a collector and a store that may be.

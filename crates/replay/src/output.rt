@@ -1,6 +1,5 @@
 // Text put into the output buffer: each function answers the next place in `out`.
 use libc::STDOUT_FILENO;
-use opus_defines::Count;
 use opus_defines::Refusal;
 
 // The output is written once it holds so many bytes. A line has fewer than 132,000.
@@ -30,27 +29,11 @@ pub fn decimal(out: &mut [u8], at: usize, n: usize) -> usize {
     text(out, at, &digits[..k])
 }
 
-fn refusal_digit(n: i32) -> u8 {
-    match n {
-        -1 => b'1',
-        -2 => b'2',
-        -4 => b'4',
-        -6 => b'6',
-        _ => b'?',
-    }
-}
-
-fn refused(out: &mut [u8], at: usize, n: i32) -> usize {
-    let next = put(out, at, b'-');
-    put(out, next, refusal_digit(n))
-}
-
 // A number that a call returned.
 pub fn number(out: &mut [u8], at: usize, n: i32) -> usize {
-    let Count::Is(k) = opus_defines::count_of(n) else {
-        return refused(out, at, n);
-    };
-    decimal(out, at, k)
+    let mut digits = [0u8; 11];
+    let k = show::number_text(&mut digits, n);
+    text(out, at, &digits[..k])
 }
 
 pub fn refusal(out: &mut [u8], at: usize, e: Refusal) -> usize {

@@ -4,9 +4,9 @@ ghost use Prim.Native.Nat.{_+_, _≤_};
 ghost use lib.IntN.{natAbs};
 ghost use lib.ListN.{length};
 ghost use lib.Seq.{sets};
+ghost use Rattle.io.specs.Counts.{Counts};
 ghost use Rattle.show.specs.Text.{decimal as Text·decimal, integer, refusal};
 use libc::STDOUT_FILENO;
-use opus_defines::Count;
 
 pub fn text(s: &[u8]) {
     io::write_all(STDOUT_FILENO, s);
@@ -17,18 +17,10 @@ pub fn decimal(n: usize) {
 }
 
 // A number that a call returned.
-pub fn number(n: i32) {
-    let Count::Is(k) = opus_defines::count_of(n) else {
-        match n {
-            -1 => text(b"-1"),
-            -2 => text(b"-2"),
-            -4 => text(b"-4"),
-            -6 => text(b"-6"),
-            _ => text(b"unknown"),
-        }
-        return;
-    };
-    decimal(k);
+pub fn number(x: i32) {
+    let mut out = [0u8; 11];
+    let k = number_text(&mut out, x);
+    text(&out[..k]);
 }
 
 // A byte in hexadecimal.
@@ -91,6 +83,15 @@ pub fn put_number(out: &mut [u8], at: usize, x: i32) -> usize
         return put_decimal(out, next, magnitude(x));
     }
     put_decimal(out, at, magnitude(x))
+}
+
+// A number at the front of `out`: at most a sign and ten digits.
+pub fn number_text(out: &mut [u8; 11], x: i32) -> usize
+    ensures bytes { λ _. ⌜ now (out .exit) ≡ sets (now (out .entry)) 0 (integer x) ⌝ }
+    ensures next { λ r. ⌜ r ≡ length (integer x) ⌝ }
+    ensures within { λ r. ⌜ Counts r (now (out .exit)) ⌝ }
+{
+    put_number(out, 0, x)
 }
 
 // The line for what is refused, at the front of `out`.

@@ -6,6 +6,7 @@ use mathlib.Core.Path.{_≡_, sym}
 use lib.ListN.{drop}
 use lib.Seq.{length-take-le}
 use borrow.Author.Needs.{needs}
+use Rattle.laws.specs.Bytes.{Bytes}
 use Rattle.opus.specs.Answers.{parsed}
 use Rattle.opus.specs.declared.Packet.{Packet}
 use Rattle.opus.proofs.Lent.{packetWith}
@@ -40,36 +41,40 @@ taken c =
     let a = s .args in
     taken-fits (a .self-delimited) (a .«data» .now) (a .to) (a .from) (a .len) (s .pre .0) (s .pre .1) (record { byte = λ i. k .slice-known .given i .fits }) (reads c) (answer c)
 
-rewrite-requires : tie.Need-rewrite-requires
-rewrite-requires c κs =
-    let f = c .before .before in
-    let m = f .before in
-    let p = m .before .before in
+compact-frames-requires : tie.Need-compact-frames-requires
+compact-frames-requires c κs =
+    let p = c .before .before .before in
     let k = p .before .before .before .before in
     let s = k .before in
     let a = s .args in
-    let w = rewrite-fits (a .self-delimited) (a .«data» .now) (a .to) (a .from) (a .len) (s .pre .0) (s .pre .1) (record { byte = λ i. k .slice-known .given i .fits }) (reads p) (answer p) (f .compact-form .result) (f .compact-form .ensures) in
-    (m .sums-of .ensures, (lies p .some, (w .0, (w .1, w .2))))
+    let bytes : Bytes (a .«data» .now) = record { byte = λ i. k .slice-known .given i .fits } in
+    let w = rewrite-fits (a .self-delimited) (a .«data» .now) (a .to) (a .from) (a .len) (s .pre .0) (s .pre .1) bytes (reads p) (answer p) in
+    (lies p .some, (w .0, w .1))
 
--- and it ends before the unread streams
-put : (c : tie.After-rewrite) → let a = c .before .before .before .before .before .before .before .before .before .before .before .args in a .to + c .rewrite .result ≤ a .len
+-- what the rewrite leaves, which ends before the unread streams
+abbrev at : tie.After-compact-frames → tie.After-read-into
+at c = c .before .before .before .before
+
+put : (c : tie.After-compact-frames) → let a = at c .before .before .before .before .before .args in a .to + c .compact-frames .result ≤ a .len
 put c =
-    let f = c .before .before .before in
-    let p = f .before .before .before in
+    let p = at c in
     let k = p .before .before .before .before in
     let s = k .before in
     let a = s .args in
-    rewritten (a .self-delimited) (a .«data» .now) (a .to) (a .from) (a .len) (s .pre .0) (s .pre .1) (record { byte = λ i. k .slice-known .given i .fits }) (reads p) (answer p) (f .compact-form .result) (f .compact-form .ensures) (c .rewrite .ensures .0) (c .rewrite .ensures .1) .2
+    let bytes : Bytes (a .«data» .now) = record { byte = λ i. k .slice-known .given i .fits } in
+    let f = c .compact-frames in
+    rewritten (a .self-delimited) (a .«data» .now) (a .to) (a .from) (a .len) (s .pre .0) (s .pre .1) bytes (reads p) (answer p) (f .ensures .0) (f .ensures .1) .2
 
 returns : tie.Need-returns
 returns c =
     let w = c .before .before .before in
-    let f = w .before .before .before in
-    let p = f .before .before .before in
+    let p = at w in
     let k = p .before .before .before .before in
     let s = k .before in
     let a = s .args in
-    let d = rewritten (a .self-delimited) (a .«data» .now) (a .to) (a .from) (a .len) (s .pre .0) (s .pre .1) (record { byte = λ i. k .slice-known .given i .fits }) (reads p) (answer p) (f .compact-form .result) (f .compact-form .ensures) (w .rewrite .ensures .0) (w .rewrite .ensures .1) in
+    let bytes : Bytes (a .«data» .now) = record { byte = λ i. k .slice-known .given i .fits } in
+    let f = w .compact-frames in
+    let d = rewritten (a .self-delimited) (a .«data» .now) (a .to) (a .from) (a .len) (s .pre .0) (s .pre .1) bytes (reads p) (answer p) (f .ensures .0) (f .ensures .1) in
     (d .0, d .1)
 
 pub repack-stream-spec : {M : Type 1} → statement M
@@ -80,17 +85,15 @@ repack-stream-spec =
     (λ c. search needs)
     (λ c. search needs)
     (λ c κs. search needs)
-    (λ c. lies c .inside)
-    (λ c. sym (length-take-le _ _ (lies (c .before) .inside)))
-    (λ c κs. lies (c .before) .some)
-    (λ c κs. search needs)
     (λ c. search needs)
-    (λ c. omega (arith, lies (c .before .before .before .before) .within, c .before .before .before .before .before .before .before .before .before .pre .0))
+    (λ c. omega (arith, lies (c .before) .within, c .before .before .before .before .before .before .pre .0))
+    (λ c. lies (c .before) .inside)
+    (λ c. sym (length-take-le _ _ (lies (c .before .before) .inside)))
     (λ c. search needs)
     (λ c. search needs)
     (λ c. search needs)
-    rewrite-requires
-    (λ c. omega (arith, put (c .before .before), c .before .before .before .before .before .before .before .before .before .before .before .before .before .pre .0))
-    (λ c. omega (arith, taken (c .before .before .before .before .before .before .before .before .before), c .before .before .before .before .before .before .before .before .before .before .before .before .before .before .pre .0))
+    compact-frames-requires
+    (λ c. omega (arith, put (c .before .before), at (c .before .before) .before .before .before .before .before .pre .0))
+    (λ c. omega (arith, taken (at (c .before .before .before)), at (c .before .before .before) .before .before .before .before .before .pre .0))
     (λ c. search needs)
     returns)

@@ -7,7 +7,7 @@ use lib.ListN.{length}
 use borrow.Author.Needs.{needs}
 use Rattle.opus_toc.specs.Toc.{upperSix}
 use Rattle.opus_header.proofs.Forms.{sums-few, compact-bytes}
-use Rattle.packet_pad.proofs.Framed.{few-missing, padded-room, laid}
+use Rattle.opus_header.proofs.Standing.{few-missing, padded-room, laid}
 use Rattle.packet_pad.proofs.pad_frames.Statement.{statement}
 use Rattle.packet_pad.proofs.pad_frames.Tie as tie
 

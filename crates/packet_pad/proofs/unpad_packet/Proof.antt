@@ -33,11 +33,11 @@ lying c =
 array-share-prefix-lengths : tie.Need-array-share-prefix-lengths
 array-share-prefix-lengths c = lying (c .before) .inside
 
-slice-aggregate-unpad-frames : tie.Need-slice-aggregate-unpad-frames
-slice-aggregate-unpad-frames c = sym (length-take-le _ _ (lying (c .before .before) .inside))
+slice-aggregate-compact-frames : tie.Need-slice-aggregate-compact-frames
+slice-aggregate-compact-frames c = sym (length-take-le _ _ (lying (c .before .before) .inside))
 
-unpad-frames-requires : tie.Need-unpad-frames-requires
-unpad-frames-requires c κs =
+compact-frames-requires : tie.Need-compact-frames-requires
+compact-frames-requires c κs =
     let t = c .before .before in
     let s = t .before .before .before .before .before .before in
     let l = lying t in
@@ -48,7 +48,7 @@ cast : tie.Need-cast-t17
 cast c =
     let t = c .before .before .before .before .before in
     let s = t .before .before .before .before .before .before in
-    omega (arith, c .before .before .unpad-frames .ensures .1, lying t .least, s .pre)
+    omega (arith, c .before .before .compact-frames .ensures .1, lying t .least, s .pre)
 
 returns : tie.Need-returns
 returns c =
@@ -56,7 +56,7 @@ returns c =
     let t = b .before .before .before in
     let s = t .before .before .before .before .before .before in
     let a = s .args in
-    meets (ap (leaves (a .«data» .now)) (unpad-read (a .«data» .now) (a .len) (read t) (lying t))) (ap pos (b .unpad-frames .ensures .1)) (b .unpad-frames .ensures .0)
+    meets (ap (leaves (a .«data» .now)) (unpad-read (a .«data» .now) (a .len) (read t) (lying t))) (ap pos (b .compact-frames .ensures .1)) (b .compact-frames .ensures .0)
 
 returns-2 : tie.Need-returns-2
 returns-2 c =
@@ -75,8 +75,8 @@ unpad-packet-spec =
     (λ c. search needs)
     (λ c. search needs)
     array-share-prefix-lengths
-    slice-aggregate-unpad-frames
-    unpad-frames-requires
+    slice-aggregate-compact-frames
+    compact-frames-requires
     cast
     (λ c. search needs)
     returns

@@ -1,14 +1,13 @@
--- `packet_pad::unpad_frames` meets its contract: the compact packet is rewritten in place.
+-- `packet_pad::compact_frames` meets its contract: the compact packet is rewritten in place.
 -- Assumes nothing.
 use native.Mathlib.Omega.{arith}
-use mathlib.Core.Bool.{false}
 use lib.ListN.{length}
 use borrow.Author.Needs.{needs}
 use Rattle.opus_toc.specs.Toc.{upperSix}
 use Rattle.opus_header.proofs.Forms.{compact-missing}
-use Rattle.packet_pad.proofs.Framed.{compact-laid}
-use Rattle.packet_pad.proofs.unpad_frames.Statement.{statement}
-use Rattle.packet_pad.proofs.unpad_frames.Tie as tie
+use Rattle.opus_header.proofs.Standing.{compact-laid}
+use Rattle.packet_pad.proofs.compact_frames.Statement.{statement}
+use Rattle.packet_pad.proofs.compact_frames.Tie as tie
 
 rewrite-requires : tie.Need-rewrite-requires
 rewrite-requires c κs =
@@ -16,7 +15,7 @@ rewrite-requires c κs =
     let m = c .before .before .sums-of in
     let s = c .before .before .before .before .before in
     let a = s .args in
-    let is = compact-laid false (upperSix (a .toc)) (a .ns .now) (a .«data» .now) (a .first) (s .pre .1 .0) (f .result) (f .ensures) (s .pre .1 .1) in
+    let is = compact-laid (a .self-delimited) (upperSix (a .toc)) (a .ns .now) (a .«data» .now) (a .first) (s .pre .1 .0) (f .result) (f .ensures) (s .pre .1 .1) in
     (m .ensures, (s .pre .0, (rw (f .ensures) (omega (arith, compact-missing (length (a .ns .now)))), (s .pre .1 .0, is .1))))
 
 returns : tie.Need-returns
@@ -25,9 +24,9 @@ returns c =
     let f = c .before .before .before .before .compact-form in
     let s = c .before .before .before .before .before .before .before .before in
     let a = s .args in
-    let is = compact-laid false (upperSix (a .toc)) (a .ns .now) (a .«data» .now) (a .first) (s .pre .1 .0) (f .result) (f .ensures) (s .pre .1 .1) in
+    let is = compact-laid (a .self-delimited) (upperSix (a .toc)) (a .ns .now) (a .«data» .now) (a .first) (s .pre .1 .0) (f .result) (f .ensures) (s .pre .1 .1) in
     (rw (is .0) at (r .ensures .0), rw (is .0) at (r .ensures .1))
 
-pub unpad-frames-spec : {M : Type 1} → statement M
-unpad-frames-spec =
+pub compact-frames-spec : {M : Type 1} → statement M
+compact-frames-spec =
     tie.close (tie.spec (λ c κs. search needs) (λ c κs. search needs) rewrite-requires (λ c. search needs) returns)
