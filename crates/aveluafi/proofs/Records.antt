@@ -64,7 +64,8 @@ module _ (sd : Bool) (p : List ℕ) (h : PacketHead) (l : List ℕ) where
   read-few bytes e = let n : h .count ≡ parsed sd p .count = ap (λ (r : Packet). r .count) e in omega (arith, n, few sd p bytes)
 
   module _ (e : answerOf h l ≡ parsed sd p) where
-    pub record-read : h .verdict ≡ Accepted → {n : ℤ} → n ≡ pos (h .count) → record { number = n; toc = h .toc; lengths = l; «payload_offset» = h .first; «packet_offset» = h .taken } ≡ packetRecord (parsed sd p)
+    pub record-read : h .verdict ≡ Accepted → {n : ℤ} → n ≡ pos (h .count)
+        → record { number = n; toc = h .toc; lengths = l; «payload_offset» = h .first; «packet_offset» = h .taken } ≡ packetRecord (parsed sd p)
     record-read v m = rw (m, ← lent-accepted sd p h l e v, v)
 
     pub record-unread : {c : Refusal} → h .verdict ≡ Refused c → packetRecord (noPacket c) ≡ packetRecord (parsed sd p)
@@ -90,5 +91,6 @@ pub rate-passed : (s : List ℕ) (rate : ℤ) → SFits w32 rate → samplesPerF
 rate-passed s rate f = rw (toZ-ofZ w32 rate f)
 
 -- ---- a record of a capture
-pub record-found : (r : NextRecord) {a : NextRecord} → r ≡ a → {n : ℤ} → n ≡ verdictNumber (pos 0) (r .verdict) → record { number = n; line = r .line; place = r .place; length = r .length; passed = r .passed } ≡ captureRecord a
+pub record-found : (r : NextRecord) {a : NextRecord} → r ≡ a → {n : ℤ} → n ≡ verdictNumber (pos 0) (r .verdict)
+    → record { number = n; line = r .line; place = r .place; length = r .length; passed = r .passed } ≡ captureRecord a
 record-found r e m = rw m (ap captureRecord e)

@@ -29,7 +29,8 @@ part-before l at (v ∷ vs) from n h =
     part-before (set l at v) (suc at) vs from n h′ ∙ rw e at (part-set l from (at - from) v n k)
 
 -- what is written from a buffer is what was read into it
-pub held : (z d : List ℕ) (at : ℕ) (s : List ℕ) (from k : ℕ) {b d′ : List ℕ} → b ≡ copied z 0 s from k → d′ ≡ copied d at b 0 k → k ≤ length z → from + k ≤ length s
+pub held : (z d : List ℕ) (at : ℕ) (s : List ℕ) (from k : ℕ) {b d′ : List ℕ} → b ≡ copied z 0 s from k → d′ ≡ copied d at b 0 k → k ≤ length z
+    → from + k ≤ length s
     → d′ ≡ copied d at s from k
 held z d at s from k eb ed h fits =
     let e : length (part s from k) ≡ k = length-part s from k fits in
@@ -81,7 +82,8 @@ pub copied-none : (d : List ℕ) (at : ℕ) (s : List ℕ) (from n : ℕ) → n 
 copied-none d at s from n e = rw e
 
 -- downward, what is read is not yet written over
-pub moved-next : (s : List ℕ) (from to i k : ℕ) {m s′ : List ℕ} → m ≡ moved s from to i → s′ ≡ moved m (from + i) (to + i) k → to ≤ from → from + (i + k) ≤ length s
+pub moved-next : (s : List ℕ) (from to i k : ℕ) {m s′ : List ℕ} → m ≡ moved s from to i → s′ ≡ moved m (from + i) (to + i) k → to ≤ from
+    → from + (i + k) ≤ length s
     → s′ ≡ moved s from to (i + k)
 moved-next s from to i k {m} em es h fits =
     let past : to + length (part s from i) ≤ from + i = omega (arith, length-part-le s from i) in
@@ -89,7 +91,8 @@ moved-next s from to i k {m} em es h fits =
     copied-more s to s from i i k (i + k) em (es ∙ ap (sets m (to + i)) read) (omega arith) (omega arith) refl fits
 
 -- upward, from the last to the first: f, t and c are the places and the count after the turn, f⁺, t⁺ and c⁻ those before it
-pub moved-prev : (s : List ℕ) (f t c f⁺ t⁺ c⁻ k : ℕ) {m s′ : List ℕ} → m ≡ moved s f⁺ t⁺ c⁻ → s′ ≡ moved m f t k → f⁺ ≡ f + k → t⁺ ≡ t + k → c ≡ k + c⁻ → f ≤ t → f + c ≤ length s
+pub moved-prev : (s : List ℕ) (f t c f⁺ t⁺ c⁻ k : ℕ) {m s′ : List ℕ} → m ≡ moved s f⁺ t⁺ c⁻ → s′ ≡ moved m f t k → f⁺ ≡ f + k → t⁺ ≡ t + k → c ≡ k + c⁻
+    → f ≤ t → f + c ≤ length s
     → s′ ≡ moved s f t c
 moved-prev s f t c f⁺ t⁺ c⁻ k {m} em es ef et ec h fits =
     let before : f + k ≤ t⁺ = omega arith in

@@ -100,7 +100,8 @@ take-sets l vs h =
 pub sets-next : (l : List ℕ) (at i : ℕ) (vs : List ℕ) (a : ℕ) → length vs ≡ i → set (sets l at vs) (at + i) a ≡ sets l at (vs ++ (a ∷ []))
 sets-next l at i vs a e = rw (sets-append, e)
 
-pub copied-next : (d : List ℕ) (at : ℕ) (s : List ℕ) (from i : ℕ) → from + i < length s → set (copied d at s from i) (at + i) (getD s (from + i) 0) ≡ copied d at s from (i + 1)
+pub copied-next : (d : List ℕ) (at : ℕ) (s : List ℕ) (from i : ℕ) → from + i < length s
+    → set (copied d at s from i) (at + i) (getD s (from + i) 0) ≡ copied d at s from (i + 1)
 copied-next d at s from i h =
     let h′ : from + i ≤ length s = omega arith in
     rw part-next (sets-next d at i (part s from i) _ (length-part s from i h′))

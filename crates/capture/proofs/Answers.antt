@@ -146,7 +146,9 @@ pub record Found (s : List ℕ) (at : ℕ) (a : NextRecord) : Type 0 where
 
 pub found : (s : List ℕ) (at : ℕ) → (nextRecord s at .length ≡ 0 → ⊥) → Found s at (nextRecord s at)
 found s at f =
-    let inside : at ≤ length s = by-test (ltb (length s) at) (λ t. absurd (f (ap (λ (a : NextRecord). a .length) (next-refused s at (ltb-true (length s) at t))))) (λ t. ltb-false (length s) at t) in
+    let inside : at ≤ length s =
+    by-test (ltb (length s) at) (λ t. absurd (f (ap (λ (a : NextRecord). a .length) (next-refused s at (ltb-true (length s) at t)))))
+    (λ t. ltb-false (length s) at t) in
     record {
       asked = inside;
       from = next-from s at inside;

@@ -140,7 +140,8 @@ module _ (s : List ℕ) (at n : ℕ) (is : n ≡ packetLength (drop at s)) where
   unfolding recordFrom
   record-later z inside =
       let none : packetLength (drop at s) ≡ 0 = sym is ∙ z in
-      let step : before (drop at s) ≡ suc (before (drop (at + 1) s)) = rw (add-one, drop-cons s at 0 inside) (before-later (getD s at 0) (drop (suc at) s) (rw (drop-cons s at 0 inside) at none)) in
+      let step : before (drop at s) ≡ suc (before (drop (at + 1) s)) =
+      rw (add-one, drop-cons s at 0 inside) (before-later (getD s at 0) (drop (suc at) s) (rw (drop-cons s at 0 inside) at none)) in
       let e : at + suc (before (drop (at + 1) s)) ≡ at + 1 + before (drop (at + 1) s) = omega arith in
       simp (step, e)
 

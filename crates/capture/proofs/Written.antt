@@ -59,7 +59,8 @@ found-holds l h f =
     }
 
 head-and-packet : (a b c x y n : ℕ) (rest : List ℕ) → a ≡ 0x4B → b ≡ 0x9D → n ≡ 256 * x + y → y < 256 → length (take n rest) ≡ n
-    → a ∷ b ∷ c ∷ x ∷ y ∷ rest ≡ 0x4B ∷ 0x9D ∷ c ∷ (length (take n rest) / 256) ∷ (length (take n rest) % 256) ∷ (take n rest ++ drop (length (take n rest)) rest)
+    → a ∷ b ∷ c ∷ x ∷ y ∷ rest ≡ 0x4B ∷ 0x9D ∷ c ∷ (length (take n rest) / 256) ∷ (length (take n rest) % 256) ∷
+    (take n rest ++ drop (length (take n rest)) rest)
 head-and-packet a b c x y n rest ea eb is h long =
     let high : n / 256 ≡ x = omega arith in
     let low : n % 256 ≡ y = omega arith in

@@ -23,12 +23,15 @@ module _ (s : List ℕ) (at : ℕ) (l : List ℕ) where
   abbrev Said : Part → List ℕ → ℕ → ℕ → Type 0
   Said p d n next = (d ≡ sets l 0 (p .text)) × ((n ≡ length (p .text)) × ((next ≡ p .next) × Counts n d))
 
-  ends-as : (p : Part) {d : List ℕ} {n next : ℕ} → partFrom s at (length l) ≡ p → d ≡ sets l 0 (p .text) → n ≡ length (p .text) → next ≡ p .next → n ≤ length l → Said (partFrom s at (length l)) d n next
+  ends-as : (p : Part) {d : List ℕ} {n next : ℕ} → partFrom s at (length l) ≡ p → d ≡ sets l 0 (p .text) → n ≡ length (p .text) → next ≡ p .next
+      → n ≤ length l → Said (partFrom s at (length l)) d n next
   ends-as p e b c g h =
       let room : length (p .text) ≤ length l = omega arith in
       rw e (b, (c, (g, rw (b, c) (front-counts l (p .text) room))))
 
-  pub ends-read : length s ≤ mostCapture → {d : List ℕ} {n next : ℕ} → let q = linesIn (length s) s at (length l) in (d ≡ sets l 0 (q .text)) × ((n ≡ length (q .text)) × ((next ≡ q .next) × (n ≤ length l))) → Said (partFrom s at (length l)) d n next
+  pub ends-read : length s ≤ mostCapture → {d : List ℕ} {n next : ℕ}
+      → let q = linesIn (length s) s at (length l) in (d ≡ sets l 0 (q .text)) × ((n ≡ length (q .text)) × ((next ≡ q .next) × (n ≤ length l)))
+      → Said (partFrom s at (length l)) d n next
   ends-read h p = ends-as (linesIn (length s) s at (length l)) (part-read s at (length l) h) (p .0) (p .1 .0) (p .1 .1 .0) (p .1 .1 .1)
 
   pub ends-small : mostCapture < length s → length l < lineMost → Said (partFrom s at (length l)) l 0 at
@@ -42,10 +45,13 @@ module _ (s : List ℕ) (at : ℕ) (l : List ℕ) where
     pub refused-room : length (refusal (toZ w32 (ofZ w32 x))) ≤ length l
     refused-room = rw number-is (omega (arith, refusal-most BadArg))
 
-    pub ends-refused : mostCapture < length s → {d : List ℕ} {n : ℕ} → d ≡ sets l 0 (refusal (toZ w32 (ofZ w32 x))) → n ≡ length (refusal (toZ w32 (ofZ w32 x))) → Said (partFrom s at (length l)) d n (length s)
+    pub ends-refused : mostCapture < length s → {d : List ℕ} {n : ℕ} → d ≡ sets l 0 (refusal (toZ w32 (ofZ w32 x)))
+        → n ≡ length (refusal (toZ w32 (ofZ w32 x))) → Said (partFrom s at (length l)) d n (length s)
     ends-refused h b c =
-        ends-as (record { next = length s; text = refusal (refusalNumber BadArg) }) (part-refused s at (length l) h k) (rw number-is at b) (rw number-is at c) refl (omega (arith, refused-room))
+        ends-as (record { next = length s; text = refusal (refusalNumber BadArg) }) (part-refused s at (length l) h k) (rw number-is at b)
+        (rw number-is at c) refl (omega (arith, refused-room))
 
 -- ---- for a caller whose buffer has room for a line: the place moves on
-pub ends-less : (s : List ℕ) (at : ℕ) (l : List ℕ) {next : ℕ} → next ≡ partFrom s at (length l) .next → lineMost ≤ length l → at < length s → length s - next < length s - at
+pub ends-less : (s : List ℕ) (at : ℕ) (l : List ℕ) {next : ℕ} → next ≡ partFrom s at (length l) .next → lineMost ≤ length l → at < length s
+    → length s - next < length s - at
 ends-less s at l e h i = let w = part-moves s at (length l) h i in omega (arith, w .0, w .1)

@@ -56,7 +56,8 @@ module _ {s : List ℕ} {start : ℕ} {l d : List ℕ} {at n : ℕ} (p : Filled 
       pub filled-more : {d′ : List ℕ} {n′ : ℕ} → Laid d n (recordLine a) d′ n′ → Filled s start l d′ (a .place + 5 + a .length) n′
       filled-more {n′ = n′} k =
           let left : length l - n - length (recordLine a) ≡ length l - n′ = omega (arith, k .place) in
-          let step : linesIn (length s) s at (length l - n) ≡ withLine (recordLine a) (linesIn (length s) s (behind a) (length l - n - length (recordLine a))) = rw e (lines-more s at (length l - n) (omega (arith, filled-length)) (rw e at f)) in
+          let step : linesIn (length s) s at (length l - n) ≡ withLine (recordLine a) (linesIn (length s) s (behind a) (length l - n - length (recordLine a))) =
+          rw e (lines-more s at (length l - n) (omega (arith, filled-length)) (rw e at f)) in
           record {
             done = p .done ++ recordLine a;
             laid = laid-then (p .laid) (recordLine a) k;
@@ -65,13 +66,16 @@ module _ {s : List ℕ} {start : ℕ} {l d : List ℕ} {at n : ℕ} (p : Filled 
           }
 
   -- ---- the end
-  ends : (t : ℕ) → linesIn (length s) s at (length l - n) ≡ stop t → let q = linesIn (length s) s start (length l) in (d ≡ sets l 0 (q .text)) × ((n ≡ length (q .text)) × ((t ≡ q .next) × (n ≤ length l)))
+  ends : (t : ℕ) → linesIn (length s) s at (length l - n) ≡ stop t
+      → let q = linesIn (length s) s start (length l) in (d ≡ sets l 0 (q .text)) × ((n ≡ length (q .text)) × ((t ≡ q .next) × (n ≤ length l)))
   ends t e =
       let whole : linesIn (length s) s start (length l) ≡ record { next = t; text = p .done } = p .rest ∙ rw (e, append-nil) in
       rw whole (p .laid .bytes, (omega (arith, p .laid .place), (refl, p .within)))
 
-  pub ends-none : (a : NextRecord) → a ≡ nextRecord s at → a .length ≡ 0 → lineMost ≤ length d - n → let q = linesIn (length s) s start (length l) in (d ≡ sets l 0 (q .text)) × ((n ≡ length (q .text)) × ((length s ≡ q .next) × (n ≤ length l)))
+  pub ends-none : (a : NextRecord) → a ≡ nextRecord s at → a .length ≡ 0 → lineMost ≤ length d - n
+      → let q = linesIn (length s) s start (length l) in (d ≡ sets l 0 (q .text)) × ((n ≡ length (q .text)) × ((length s ≡ q .next) × (n ≤ length l)))
   ends-none a e z h = ends (length s) (lines-none (length s) s at (length l - n) (omega (arith, filled-length)) (rw e at z))
 
-  pub ends-full : length d - n < lineMost → let q = linesIn (length s) s start (length l) in (d ≡ sets l 0 (q .text)) × ((n ≡ length (q .text)) × ((at ≡ q .next) × (n ≤ length l)))
+  pub ends-full : length d - n < lineMost
+      → let q = linesIn (length s) s start (length l) in (d ≡ sets l 0 (q .text)) × ((n ≡ length (q .text)) × ((at ≡ q .next) × (n ≤ length l)))
   ends-full h = ends at (lines-full (length s) s at (length l - n) (omega (arith, filled-length)))

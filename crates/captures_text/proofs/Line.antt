@@ -14,7 +14,8 @@ use Rattle.captures_text.specs.Lines.{lineMost, recordLine}
 pub line-most : (a : NextRecord) → a .line < 256 → a .place < 65536 → a .length < 65536 → length (recordLine a) ≤ lineMost
 unfolding recordLine
 line-most a h k m =
-    simp length-append (omega (arith, decimal-most (a .line) 2 (omega arith), decimal-most (a .place) 4 (omega arith), decimal-most (a .length) 4 (omega arith)))
+    simp length-append
+    (omega (arith, decimal-most (a .line) 2 (omega arith), decimal-most (a .place) 4 (omega arith), decimal-most (a .length) 4 (omega arith)))
 
 -- ---- the line without its end, and without its last number
 abbrev pub threeNumbers : NextRecord → List ℕ

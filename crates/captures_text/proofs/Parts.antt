@@ -26,7 +26,8 @@ abbrev pub stop : ℕ → Part
 stop n = record { next = n; text = [] }
 
 -- one of the three holds
-pub by-turn : {P : Type 0} (s : List ℕ) (at room : ℕ) → (room < lineMost → P) → (lineMost ≤ room → nextRecord s at .length ≡ 0 → P) → (lineMost ≤ room → (nextRecord s at .length ≡ 0 → ⊥) → P) → P
+pub by-turn : {P : Type 0} (s : List ℕ) (at room : ℕ) → (room < lineMost → P) → (lineMost ≤ room → nextRecord s at .length ≡ 0 → P)
+    → (lineMost ≤ room → (nextRecord s at .length ≡ 0 → ⊥) → P) → P
 by-turn s at room f g h =
     by-test (ltb room lineMost) (λ t. f (ltb-true room lineMost t))
     (λ t. by-test (eqb (nextRecord s at .length) 0) (λ u. g (ltb-false room lineMost t) (eqb-true (nextRecord s at .length) 0 u)) (λ u. h (ltb-false room lineMost t) (eqb-false (nextRecord s at .length) 0 u)))
@@ -46,7 +47,9 @@ unfolding linesIn
 lines-none zero s at room h z = zero-end s at room h
 lines-none (suc most) s at room h z = simp (le-ltb room lineMost h, eq-eqb (nextRecord s at .length) 0 z)
 
-line-and-more : (most : ℕ) (s : List ℕ) (at room : ℕ) → lineMost ≤ room → (nextRecord s at .length ≡ 0 → ⊥) → linesIn (suc most) s at room ≡ withLine (recordLine (nextRecord s at)) (linesIn most s (behind (nextRecord s at)) (room - length (recordLine (nextRecord s at))))
+line-and-more : (most : ℕ) (s : List ℕ) (at room : ℕ) → lineMost ≤ room → (nextRecord s at .length ≡ 0 → ⊥)
+    → linesIn (suc most) s at room
+    ≡ withLine (recordLine (nextRecord s at)) (linesIn most s (behind (nextRecord s at)) (room - length (recordLine (nextRecord s at))))
 unfolding linesIn
 line-and-more most s at room h f = simp (le-ltb room lineMost h, ne-eqb (nextRecord s at .length) 0 f)
 
@@ -57,7 +60,8 @@ lines-end most s at room e =
     (λ h f. absurd (f (none-behind s at (omega arith))))
 
 -- where there is no line, the bound does not count
-both-stop : {P : Type 0} (f g : ℕ) (s : List ℕ) (at room : ℕ) → (linesIn f s at room ≡ linesIn g s at room → P) → (lineMost ≤ room → (nextRecord s at .length ≡ 0 → ⊥) → P) → P
+both-stop : {P : Type 0} (f g : ℕ) (s : List ℕ) (at room : ℕ) → (linesIn f s at room ≡ linesIn g s at room → P)
+    → (lineMost ≤ room → (nextRecord s at .length ≡ 0 → ⊥) → P) → P
 both-stop f g s at room same line =
     by-turn s at room (λ t. same (lines-full f s at room t ∙ sym (lines-full g s at room t)))
     (λ t z. same (lines-none f s at room t z ∙ sym (lines-none g s at room t z))) line
@@ -71,11 +75,14 @@ same-lines (suc f) (suc g) s at room h k =
     let a = nextRecord s at in
     let r = found s at n in
     let left = room - length (recordLine a) in
-    let e : linesIn f s (behind a) left ≡ linesIn g s (behind a) left = same-lines f g s (behind a) left (omega (arith, r .from, r .some, r .next)) (omega (arith, r .from, r .some, r .next)) in
+    let e : linesIn f s (behind a) left ≡ linesIn g s (behind a) left =
+    same-lines f g s (behind a) left (omega (arith, r .from, r .some, r .next)) (omega (arith, r .from, r .some, r .next)) in
     line-and-more f s at room t n ∙ rw e (sym (line-and-more g s at room t n)))
 
 -- as many lines as the capture has bytes
-pub lines-more : (s : List ℕ) (at room : ℕ) → lineMost ≤ room → (nextRecord s at .length ≡ 0 → ⊥) → linesIn (length s) s at room ≡ withLine (recordLine (nextRecord s at)) (linesIn (length s) s (behind (nextRecord s at)) (room - length (recordLine (nextRecord s at))))
+pub lines-more : (s : List ℕ) (at room : ℕ) → lineMost ≤ room → (nextRecord s at .length ≡ 0 → ⊥)
+    → linesIn (length s) s at room
+    ≡ withLine (recordLine (nextRecord s at)) (linesIn (length s) s (behind (nextRecord s at)) (room - length (recordLine (nextRecord s at))))
 lines-more s at room h n =
     same-lines (length s) (suc (length s)) s at room (omega arith) (omega arith) ∙ line-and-more (length s) s at room h n
 
@@ -92,7 +99,8 @@ lines-within (suc most) s at room h =
     let w = lines-within most s (behind a) (room - length (recordLine a)) (r .inside) in
     rw (line-and-more most s at room t n) (omega (arith, w .0, r .from, r .next), w .1))
 
-lines-move : (s : List ℕ) (at room : ℕ) → lineMost ≤ room → at < length s → (at < linesIn (length s) s at room .next) × (linesIn (length s) s at room .next ≤ length s)
+lines-move : (s : List ℕ) (at room : ℕ) → lineMost ≤ room → at < length s
+    → (at < linesIn (length s) s at room .next) × (linesIn (length s) s at room .next ≤ length s)
 lines-move s at room h i =
     by-turn s at room (λ t. absurd (omega arith)) (λ t z. rw (lines-none (length s) s at room t z) (i, omega arith))
     (λ t n.

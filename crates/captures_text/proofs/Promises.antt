@@ -17,7 +17,8 @@ use Rattle.captures_text.proofs.Parts.{part-read, part-refused, part-mo
 use Rattle.captures_text.proofs.Readings.{text-end, text-parts}
 
 -- ---- the parts from a place on
-printed-more : (most : ℕ) (s : List ℕ) (at room : ℕ) → at < length s → printed (suc most) s at room ≡ partFrom s at room .text ++ printed most s (partFrom s at room .next) room
+printed-more : (most : ℕ) (s : List ℕ) (at room : ℕ) → at < length s
+    → printed (suc most) s at room ≡ partFrom s at room .text ++ printed most s (partFrom s at room .next) room
 unfolding printed
 printed-more most s at room h = simp (lt-ltb at (length s) h)
 
@@ -26,7 +27,8 @@ unfolding printed
 printed-end zero s at room h = refl
 printed-end (suc most) s at room h = simp (le-ltb at (length s) h)
 
-printed-lines : (most : ℕ) (s : List ℕ) (at room : ℕ) → lineMost ≤ room → length s ≤ mostCapture → at ≤ length s → length s - at ≤ most → printed most s at room ≡ recordLines (readings s at)
+printed-lines : (most : ℕ) (s : List ℕ) (at room : ℕ) → lineMost ≤ room → length s ≤ mostCapture → at ≤ length s → length s - at ≤ most
+    → printed most s at room ≡ recordLines (readings s at)
 printed-lines zero s at room h short i k = printed-end zero s at room (omega arith) ∙ sym (text-end s at (omega arith))
 printed-lines (suc most) s at room h short i k =
     by-test (ltb at (length s))
@@ -46,7 +48,8 @@ text-refused : (s : List ℕ) → mostCapture < length s → captureText s ≡ r
 unfolding captureText
 text-refused s h = simp (lt-leb (length s) mostCapture h)
 
-printed-refused : (most : ℕ) (s : List ℕ) (room : ℕ) → lineMost ≤ room → mostCapture < length s → 0 < most → printed most s 0 room ≡ refusal (refusalNumber BadArg)
+printed-refused : (most : ℕ) (s : List ℕ) (room : ℕ) → lineMost ≤ room → mostCapture < length s → 0 < most
+    → printed most s 0 room ≡ refusal (refusalNumber BadArg)
 printed-refused zero s room h long some = absurd (omega arith)
 printed-refused (suc most) s room h long some =
     printed-more most s 0 room (omega arith) ∙ rw (part-refused s 0 room long h, printed-end most s (length s) room (omega arith), append-nil)

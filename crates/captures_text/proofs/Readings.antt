@@ -22,7 +22,8 @@ module _ (s : List ℕ) (at : ℕ) where
   unfolding recordLines
   text-none z = rw (readings-end s at z) (simp (eq-eqb (nextRecord s at .length) 0 z))
 
-  pub text-more : (nextRecord s at .length ≡ 0 → ⊥) → recordLines (readings s at) ≡ recordLine (nextRecord s at) ++ recordLines (readings s (behind (nextRecord s at)))
+  pub text-more : (nextRecord s at .length ≡ 0 → ⊥)
+      → recordLines (readings s at) ≡ recordLine (nextRecord s at) ++ recordLines (readings s (behind (nextRecord s at)))
   unfolding recordLines
   text-more f = rw (readings-on s at (found s at f .asked) f) (simp (ne-eqb (nextRecord s at .length) 0 f))
 
@@ -30,7 +31,8 @@ pub text-end : (s : List ℕ) (at : ℕ) → length s ≤ at → recordLines (re
 text-end s at h = text-none s at (none-behind s at h)
 
 -- by the bytes left
-parts-in : (left : ℕ) (s : List ℕ) (at room : ℕ) → at ≤ length s → length s - at ≤ left → recordLines (readings s at) ≡ linesIn (length s) s at room .text ++ recordLines (readings s (linesIn (length s) s at room .next))
+parts-in : (left : ℕ) (s : List ℕ) (at room : ℕ) → at ≤ length s → length s - at ≤ left
+    → recordLines (readings s at) ≡ linesIn (length s) s at room .text ++ recordLines (readings s (linesIn (length s) s at room .next))
 parts-in zero s at room i h =
     rw (lines-end (length s) s at room (omega arith), text-end s at (omega arith), text-end s (length s) (omega arith))
 parts-in (suc left) s at room i h =
@@ -42,5 +44,6 @@ parts-in (suc left) s at room i h =
     let others = parts-in left s (behind a) (room - length (recordLine a)) (r .inside) (omega (arith, r .from, r .some, r .next)) in
     text-more s at n ∙ rw (lines-more s at room t n, append-assoc, ← others))
 
-pub text-parts : (s : List ℕ) (at room : ℕ) → at ≤ length s → recordLines (readings s at) ≡ linesIn (length s) s at room .text ++ recordLines (readings s (linesIn (length s) s at room .next))
+pub text-parts : (s : List ℕ) (at room : ℕ) → at ≤ length s
+    → recordLines (readings s at) ≡ linesIn (length s) s at room .text ++ recordLines (readings s (linesIn (length s) s at room .next))
 text-parts s at room i = parts-in (length s) s at room i (omega arith)

@@ -39,7 +39,8 @@ use Rattle.show.proofs.Refusals.{refusal-passed, refusal-most}
 use Rattle.listing_text.specs.Listing.{packetText, listed, listing}
 use Rattle.listing_text.proofs.Room.{packet-most}
 
-pub answers : (l p t : List ℕ) {d : List ℕ} {n : ℕ} → listing p ≡ t → length t ≤ length l → d ≡ sets l 0 t → n ≡ length t → (d ≡ sets l 0 (listing p)) × ((n ≡ length (listing p)) × Counts n d)
+pub answers : (l p t : List ℕ) {d : List ℕ} {n : ℕ} → listing p ≡ t → length t ≤ length l → d ≡ sets l 0 t → n ≡ length t
+    → (d ≡ sets l 0 (listing p)) × ((n ≡ length (listing p)) × Counts n d)
 answers l p t e h b n = rw e (b, (n, rw (b, n) (front-counts l t h)))
 
 -- ---- a packet p that was read, with the reader's answer r
@@ -69,7 +70,9 @@ listing-read p r bytes e v =
       some = (f .some, f .few, f .small);
       places = omega (arith, d .short);
       text = rw (le-ltb 65535 (length p) (d .short), d .means, compact-needs false (upperSix (r .toc)) ns p (r .first) within (sumsOf ns) refl (small r) refl);
-      room = packet-most (r .toc) ns (r .first) (r .taken) (small r) (omega (arith, f .byte)) (f .few) (omega (arith, f .short)) (omega (arith, d .short)) (omega (arith, f .within, d .short)) (small-most ns (f .few) (f .small));
+      room =
+          packet-most (r .toc) ns (r .first) (r .taken) (small r) (omega (arith, f .byte)) (f .few) (omega (arith, f .short)) (omega (arith, d .short))
+          (omega (arith, f .within, d .short)) (small-most ns (f .few) (f .small));
     }
 
 -- ---- a packet that was refused

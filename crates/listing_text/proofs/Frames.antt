@@ -41,7 +41,9 @@ module _ (first : ℕ) (ns : List ℕ) (i : ℕ) (h : i < length ns) where
   lines-within =
       let n = getD ns i 0 in
       let rest = drop (suc i) ns in
-      let whole : frameLines 0 first ns ≡ frameLines 0 first (take i ns) ++ frameLines (0 + length (take i ns)) (first + total (take i ns)) (n ∷ rest) = ap (frameLines 0 first) (split-at ns i 0 h) ∙ lines-append 0 first (take i ns) (n ∷ rest) in
+      let whole : frameLines 0 first ns ≡ frameLines 0 first (take i ns) ++ frameLines (0 + length (take i ns)) (first + total (take i ns)) (n ∷ rest) =
+      ap (frameLines 0 first) (split-at ns i 0 h)
+      ∙ lines-append 0 first (take i ns) (n ∷ rest) in
       omega (arith, simp length-append at (ap length (rw count at whole)))
 
 -- of the frames of lengths ns the lines of the first i are put from `at` on, over l: d is what stands there now, `next` is behind them, and

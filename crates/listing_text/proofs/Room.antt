@@ -39,7 +39,8 @@ unfolding sizes payloadLabel packetLabel compactLabel
 sizes-most first taken small h k m =
     simp length-append (omega (arith, line-most payloadLabel first h, line-most packetLabel taken k, line-most compactLabel small m))
 
-pub packet-most : (toc : ℕ) (ns : List ℕ) (first taken small : ℕ) → toc < 100000 → length ns ≤ 48 → time toc (length ns) < 100000 → first + total ns < 100000 → taken < 100000 → small < 100000 → length (packetText toc ns first taken small) ≤ 2048
+pub packet-most : (toc : ℕ) (ns : List ℕ) (first taken small : ℕ) → toc < 100000 → length ns ≤ 48 → time toc (length ns) < 100000
+    → first + total ns < 100000 → taken < 100000 → small < 100000 → length (packetText toc ns first taken small) ≤ 2048
 unfolding packetText
 packet-most toc ns first taken small h k m f t s =
     simp length-append (omega (arith, times-most toc ns h k m, sizes-most first taken small (omega arith) t s, lines-most 0 first ns (omega arith) f))

@@ -70,14 +70,16 @@ ahead-within : (q : List ℕ) (x : Repacked) (n m : ℕ) → length q ≤ n → 
 ahead-within q (unread e) n m h l = omega arith
 ahead-within q (repacked v) n m h l = omega (arith, length-append q v)
 
-reading-within : (sd : Bool) (next : List ℕ → Repacked) (p : List ℕ) → Bytes p → ((n : ℕ) → length (packedOf (next (drop n p))) ≤ length (drop n p)) → length (packedOf (repackReading sd next p (read sd p))) ≤ length p
+reading-within : (sd : Bool) (next : List ℕ → Repacked) (p : List ℕ) → Bytes p → ((n : ℕ) → length (packedOf (next (drop n p))) ≤ length (drop n p))
+    → length (packedOf (repackReading sd next p (read sd p))) ≤ length p
 reading-within sd next p bytes h = go (read sd p) refl
   where
     go : (x : Reading) → read sd p ≡ x → length (packedOf (repackReading sd next p x)) ≤ length p
     go (refused rule) r = omega arith
     go (accepted toc ns first taken) r =
         let q = compact sd (upperSix toc) (cut ns (drop first p)) in
-        let rest : taken + length (packedOf (next (drop taken p))) ≤ length p = omega (arith, h taken, length-drop taken p, taken-within sd p toc ns first taken bytes r) in
+        let rest : taken + length (packedOf (next (drop taken p))) ≤ length p =
+        omega (arith, h taken, length-drop taken p, taken-within sd p toc ns first taken bytes r) in
         ahead-within q (next (drop taken p)) taken (length p) (compact-within sd p toc ns first taken bytes r) rest
 
 pub packed-within : (k : ℕ) (p : List ℕ) → Bytes p → length (packedOf (repackStreams k p)) ≤ length p

@@ -89,7 +89,9 @@ module _ (p : List ℕ) (k new : ℕ) where
   pad-last at h = rw h
 
 -- bytes that stay in front
-behind-leaves : (s : List ℕ) (at : ℕ) → at ≤ length s → (x : Effect) → (leaves (drop at s) x .number ≡ leaves s (behind (take at s) x) .number) × (take at s ++ leaves (drop at s) x .bytes ≡ leaves s (behind (take at s) x) .bytes)
+behind-leaves : (s : List ℕ) (at : ℕ) → at ≤ length s → (x : Effect)
+    → (leaves (drop at s) x .number ≡ leaves s (behind (take at s) x) .number)
+    × (take at s ++ leaves (drop at s) x .bytes ≡ leaves s (behind (take at s) x) .bytes)
 behind-leaves s at h (refusal e) = (refl, take-append-drop at s)
 behind-leaves s at h (wrote n vs) = (refl, sets-front s at vs h)
 
@@ -109,7 +111,8 @@ module _ (s : List ℕ) (len new at : ℕ) (fits : len ≤ length s) where
         rw (left, ne-eqb (len - at) 0 (λ z. some (omega arith)), take-take at len s inside, drop-take at len s)
 
     -- as the code lends the last stream
-    pub last-behind : {n : ℤ} {v : List ℕ} → let d = take (length s - at) (drop at s) in let x = leaves d (padPacket (take (len - at) d) (new - at)) in n ≡ x .number → v ≡ x .bytes
+    pub last-behind : {n : ℤ} {v : List ℕ}
+        → let d = take (length s - at) (drop at s) in let x = leaves d (padPacket (take (len - at) d) (new - at)) in n ≡ x .number → v ≡ x .bytes
         → (n ≡ leaves s (padLast (take len s) new (Past at)) .number) × (putMid at (length s - at) s v ≡ leaves s (padLast (take len s) new (Past at)) .bytes)
     last-behind {v = v} a b =
         let x = padPacket (take (len - at) (drop at s)) (new - at) in

@@ -56,7 +56,8 @@ held sd next p xs e = go (read sd p) refl e
             record { toc = toc; ns = ns; first = first; taken = taken; means = r; others = ys; rest = q; all = cc }
 
 -- what is spelled reads as its stream, and then what stands behind it
-spelled-streams : {sd : Bool} {six : ℕ} {c : List ℕ} {frames : List (List ℕ)} (w : Spells sd six c frames) (rest : List ℕ) → Behind sd rest → (next : List ℕ → Streams) → thenStreams next (c ++ rest) (read sd (c ++ rest)) ≡ andStreams (record { six = six; frames = frames }) (next rest)
+spelled-streams : {sd : Bool} {six : ℕ} {c : List ℕ} {frames : List (List ℕ)} (w : Spells sd six c frames) (rest : List ℕ) → Behind sd rest
+    → (next : List ℕ → Streams) → thenStreams next (c ++ rest) (read sd (c ++ rest)) ≡ andStreams (record { six = six; frames = frames }) (next rest)
 unfolding framesOf
 spelled-streams {c = c} w rest b next =
     let reads = spelled-read w rest b in
@@ -79,10 +80,12 @@ module _ (sd : Bool) (next : List ℕ → Streams) (p : List ℕ) (bytes : Bytes
       omega (arith, f .headed, f .block, f .within)
 
   -- any bytes that spell the stream may take its place
-  pub exchanged : {c : List ℕ} → Spells sd six c frames → (rest : List ℕ) → Behind sd rest → next rest ≡ streams (h .others) → thenStreams next (c ++ rest) (read sd (c ++ rest)) ≡ streams xs
+  pub exchanged : {c : List ℕ} → Spells sd six c frames → (rest : List ℕ) → Behind sd rest → next rest ≡ streams (h .others)
+      → thenStreams next (c ++ rest) (read sd (c ++ rest)) ≡ streams xs
   exchanged w rest b e = spelled-streams w rest b next ∙ rw (e, h .all)
 
-  repacks : (nextR : List ℕ → Repacked) (q : List ℕ) → nextR (drop (h .taken) p) ≡ repacked q → repackReading sd nextR p (read sd p) ≡ repacked (compact sd six frames ++ q)
+  repacks : (nextR : List ℕ → Repacked) (q : List ℕ) → nextR (drop (h .taken) p) ≡ repacked q
+      → repackReading sd nextR p (read sd p) ≡ repacked (compact sd six frames ++ q)
   repacks nextR q e = rw (h .means, e)
 
 -- ---- all streams
@@ -90,7 +93,8 @@ pub readable-some : (k : ℕ) (p : List ℕ) → Bytes p → (xs : List Stream) 
 readable-some zero p bytes xs e = held-some false (λ t. streams []) p bytes xs (held false (λ t. streams []) p xs e)
 readable-some (suc k) p bytes xs e = held-some true (readStreams k) p bytes xs (held true (readStreams k) p xs e)
 
-pub repack-holds : (k : ℕ) (p : List ℕ) → Bytes p → (xs : List Stream) → readStreams k p ≡ streams xs → (q : List ℕ) × (repackStreams k p ≡ repacked q) × (readStreams k q ≡ streams xs)
+pub repack-holds : (k : ℕ) (p : List ℕ) → Bytes p → (xs : List Stream) → readStreams k p ≡ streams xs
+    → (q : List ℕ) × (repackStreams k p ≡ repacked q) × (readStreams k q ≡ streams xs)
 repack-holds zero p bytes xs e =
     let next : List ℕ → Streams = λ t. streams [] in
     let h = held false next p xs e in
@@ -121,5 +125,7 @@ last-of (suc k) p bytes xs e =
       passed = rw (h .means, l .passed);
       last = l .last;
       reads = rw (drop-drop (l .at) n p) at (l .reads);
-      keeps = λ v r. rw (take-add n (l .at) p, append-assoc (take n p) (take (l .at) (drop n p)) v) (exchanged true (readStreams k) p bytes xs h (was true (readStreams k) p bytes xs h) (take (l .at) (drop n p) ++ v) tt (l .keeps v r));
+      keeps =
+          λ v r. rw (take-add n (l .at) p, append-assoc (take n p) (take (l .at) (drop n p)) v)
+          (exchanged true (readStreams k) p bytes xs h (was true (readStreams k) p bytes xs h) (take (l .at) (drop n p) ++ v) tt (l .keeps v r));
     }

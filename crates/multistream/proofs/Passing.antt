@@ -128,7 +128,8 @@ pub all-stuck : (k : ℕ) (s : List ℕ) (e : Refusal) → passStreams k s ≡ S
 all-stuck zero s e h = never (cc)
 all-stuck (suc k) s e h = go (λ t. all-stuck k t e) (read true s) h
   where
-    go : ((t : List ℕ) → passStreams k t ≡ Stuck e → Verdicts.Refused e ≡ verdictOf (repackStreams k t)) → (x : Reading) → thenPass (passStreams k) s (passBy x) ≡ Stuck e → Verdicts.Refused e ≡ verdictOf (repackReading true (repackStreams k) s x)
+    go : ((t : List ℕ) → passStreams k t ≡ Stuck e → Verdicts.Refused e ≡ verdictOf (repackStreams k t)) → (x : Reading)
+        → thenPass (passStreams k) s (passBy x) ≡ Stuck e → Verdicts.Refused e ≡ verdictOf (repackReading true (repackStreams k) s x)
     go next (refused rule) h = cc
     go next (accepted toc ns first taken) h =
         next (drop taken s) (further-stuck taken (passStreams k (drop taken s)) e h)
@@ -140,9 +141,12 @@ all-last zero s at h =
     rw (← none) (last-verdict s (read false s))
 all-last (suc k) s at h = go (λ t. all-last k t) (read true s) h
   where
-    go : ((t : List ℕ) (at : ℕ) → passStreams k t ≡ Past at → verdictBy (passBy (read false (drop at t))) ≡ verdictOf (repackStreams k t)) → (x : Reading) → thenPass (passStreams k) s (passBy x) ≡ Past at → verdictBy (passBy (read false (drop at s))) ≡ verdictOf (repackReading true (repackStreams k) s x)
+    go : ((t : List ℕ) (at : ℕ) → passStreams k t ≡ Past at → verdictBy (passBy (read false (drop at t))) ≡ verdictOf (repackStreams k t)) → (x : Reading)
+        → thenPass (passStreams k) s (passBy x) ≡ Past at
+        → verdictBy (passBy (read false (drop at s))) ≡ verdictOf (repackReading true (repackStreams k) s x)
     go next (refused rule) h = never (cc)
     go next (accepted toc ns first taken) h =
         let w = further-was taken at (passStreams k (drop taken s)) h in
         let there : drop (w .0) (drop taken s) ≡ drop at s = drop-drop (w .0) taken s ∙ ap (λ (n : ℕ). drop n s) (w .2) in
-        (rw there at (next (drop taken s) (w .0) (w .1))) ∙ sym (ahead-verdict (compact true (upperSix toc) (cut ns (drop first s))) (repackStreams k (drop taken s)))
+        (rw there at (next (drop taken s) (w .0) (w .1)))
+        ∙ sym (ahead-verdict (compact true (upperSix toc) (cut ns (drop first s))) (repackStreams k (drop taken s)))

@@ -18,14 +18,16 @@ use Rattle.multistream.proofs.Written.{pad-holds, unpad-holds}
 use Rattle.multistream.proofs.Roomy.{unpad-roomy}
 
 -- a multistream packet of k + 1 streams that can be read, in the first len bytes of a buffer
-module _ (s : List ℕ) (bytes : Bytes s) (len : ℕ) (fits : len ≤ length s) (most : len ≤ 65535) (k : ℕ) (few : suc k ≤ 255) (xs : List Stream) (r : readStreams k (take len s) ≡ streams xs) where
+module _ (s : List ℕ) (bytes : Bytes s) (len : ℕ) (fits : len ≤ length s) (most : len ≤ 65535) (k : ℕ) (few : suc k ≤ 255) (xs : List Stream)
+    (r : readStreams k (take len s) ≡ streams xs) where
   -- Unpad never refuses it: what it writes holds stream by stream the same frames and upper six TOC bits, and is no longer.
   pub unpad-keeps-the-streams : (q : List ℕ) × (streamsUnpadded s (pos len) (pos (suc k)) ≡ writes q s) × (readStreams k q ≡ streams xs) × (length q ≤ len)
   unpad-keeps-the-streams =
       unpad-holds s bytes len fits most k few xs r
 
   -- Pad never refuses it: what it writes has the new length and holds the same.
-  pub pad-keeps-the-streams : (new : ℕ) → len < new → new ≤ length s → new ≤ 65535 → (q : List ℕ) × (streamsPadded s (pos len) (pos new) (pos (suc k)) ≡ padsTo q s) × (readStreams k q ≡ streams xs) × (length q ≡ new)
+  pub pad-keeps-the-streams : (new : ℕ) → len < new → new ≤ length s → new ≤ 65535
+      → (q : List ℕ) × (streamsPadded s (pos len) (pos new) (pos (suc k)) ≡ padsTo q s) × (readStreams k q ≡ streams xs) × (length q ≡ new)
   pad-keeps-the-streams new more room short =
       pad-holds s bytes len fits most k few xs r new more room short
 

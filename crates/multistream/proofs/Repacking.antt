@@ -53,13 +53,16 @@ accepted-verdict sd p r e h ok = go (read sd p) (rw (le-ltb 65535 (length p) h) 
     go (accepted toc ns first taken) e a = ap (λ (q : Packet). q .verdict) e
 
 -- the reader's answer, with its lengths in a lent array
-pub lent-read : (sd : Bool) (s : List ℕ) (to from len : ℕ) → (to ≤ from) × (from ≤ len) × (len ≤ length s) × (len ≤ 65535) → isAccepted (read sd (stream s from len)) ≡ true → (h : PacketHead) (l : List ℕ) → answerOf h l ≡ parsed sd (stream s from len) → packetWith h l ≡ parsed sd (stream s from len)
+pub lent-read : (sd : Bool) (s : List ℕ) (to from len : ℕ) → (to ≤ from) × (from ≤ len) × (len ≤ length s) × (len ≤ 65535)
+    → isAccepted (read sd (stream s from len)) ≡ true → (h : PacketHead) (l : List ℕ) → answerOf h l ≡ parsed sd (stream s from len)
+    → packetWith h l ≡ parsed sd (stream s from len)
 lent-read sd s to from len places ok h l e =
     let long = length-take-le (len - from) (drop from s) (omega (arith, length-drop from s)) in
     lent-accepted sd (stream s from len) h l e (accepted-verdict sd (stream s from len) (answerOf h l) e (omega (arith, long)) ok)
 
 -- the stream at `from`, of what ends at `len`, goes to `to`; r is the reader's answer
-module _ (sd : Bool) (s : List ℕ) (to from len : ℕ) (places : (to ≤ from) × (from ≤ len) × (len ≤ length s) × (len ≤ 65535)) (ok : isAccepted (read sd (stream s from len)) ≡ true) (bytes : Bytes s) (r : Packet) (p : r ≡ parsed sd (stream s from len)) where
+module _ (sd : Bool) (s : List ℕ) (to from len : ℕ) (places : (to ≤ from) × (from ≤ len) × (len ≤ length s) × (len ≤ 65535))
+    (ok : isAccepted (read sd (stream s from len)) ≡ true) (bytes : Bytes s) (r : Packet) (p : r ≡ parsed sd (stream s from len)) where
   fits : len - from ≤ length (drop from s)
   fits = omega (arith, length-drop from s)
 
@@ -95,7 +98,8 @@ module _ (sd : Bool) (s : List ℕ) (to from len : ℕ) (places : (to ≤ from) 
       rw (there, lying .means, lying .frames)
 
   -- of the part that is lent
-  pub rewrite-fits : (first + total (lengthsOf r) ≤ length (take (length s - to) (drop to s))) × (length (compactHeader sd (upperSix (r .toc)) (lengthsOf r)) ≤ first)
+  pub rewrite-fits : (first + total (lengthsOf r) ≤ length (take (length s - to) (drop to s)))
+      × (length (compactHeader sd (upperSix (r .toc)) (lengthsOf r)) ≤ first)
   rewrite-fits = (rw (part-to-end s to) block, omega (arith, lying .short))
 
   pub rewritten : {v : List ℕ} {n : ℕ}
@@ -116,7 +120,8 @@ module _ (sd : Bool) (next : List ℕ → Repacked) (p : List ℕ) where
   was-read (refused rule) v = never (cc)
   was-read (accepted toc ns first taken) v = refl
 
-  was-repacked : (x : Reading) → verdictOf (repackReading sd next p x) ≡ Accepted → repackReading sd next p x ≡ ahead (compactBy sd p x) (next (drop (takenBy x) p))
+  was-repacked : (x : Reading) → verdictOf (repackReading sd next p x) ≡ Accepted
+      → repackReading sd next p x ≡ ahead (compactBy sd p x) (next (drop (takenBy x) p))
   was-repacked (refused rule) v = never (cc)
   was-repacked (accepted toc ns first taken) v = refl
 
@@ -153,7 +158,8 @@ module _ (s : List ℕ) (len k : ℕ) where
         rest = ahead-none (repackStreams k (take len s));
       }
 
-  module _ (fits : len ≤ length s) (short : len ≤ 65535) (good : verdictOf (repackStreams k (take len s)) ≡ Accepted) (d : List ℕ) (to from i : ℕ) (z : Repacking s len k d to from i) where
+  module _ (fits : len ≤ length s) (short : len ≤ 65535) (good : verdictOf (repackStreams k (take len s)) ≡ Accepted) (d : List ℕ) (to from i : ℕ)
+      (z : Repacking s len k d to from i) where
     -- what is left to read
     abbrev rest : List ℕ
     rest = drop from (take len s)
@@ -180,7 +186,8 @@ module _ (s : List ℕ) (len k : ℕ) where
       next-reads = rw unread-are (was-read sd next rest (read sd rest) good-reading)
 
       -- d′ and at are the buffer and the places after it
-      module _ (bytes : Bytes s) (d′ : List ℕ) (b : d′ ≡ sets d to (compactOf sd (stream d from len))) (at : Places) (a : at ≡ nextPlaces to from sd (stream d from len)) where
+      module _ (bytes : Bytes s) (d′ : List ℕ) (b : d′ ≡ sets d to (compactOf sd (stream d from len))) (at : Places)
+          (a : at ≡ nextPlaces to from sd (stream d from len)) where
         within : (length (compactOf sd rest) ≤ takenBy (read sd rest)) × (takenBy (read sd rest) ≤ length rest)
         within = by-within sd rest (bytes-drop from (take len s) (bytes-take len s bytes))
 
@@ -215,7 +222,8 @@ module _ (s : List ℕ) (len k : ℕ) where
       pub repacking-reads : isAccepted (read true (stream d from len)) ≡ true
       repacking-reads = next-reads true (repackStreams (more-left h .0)) next-is
 
-      pub repacking-more : Bytes s → (d′ : List ℕ) → d′ ≡ sets d to (compactOf true (stream d from len)) → (at : Places) → at ≡ nextPlaces to from true (stream d from len) → Repacking s len k d′ (at .to) (at .from) (i + 1)
+      pub repacking-more : Bytes s → (d′ : List ℕ) → d′ ≡ sets d to (compactOf true (stream d from len)) → (at : Places)
+          → at ≡ nextPlaces to from true (stream d from len) → Repacking s len k d′ (at .to) (at .from) (i + 1)
       repacking-more bytes d′ b at a =
           let next = repackStreams (more-left h .0) in
           let w = within true next next-is bytes d′ b at a in
@@ -239,8 +247,11 @@ module _ (s : List ℕ) (len k : ℕ) where
       pub repacking-last : isAccepted (read false (stream d from len)) ≡ true
       repacking-last = next-reads false (λ t. repacked []) last-is
 
-      pub repacking-end : Bytes s → (d′ : List ℕ) → d′ ≡ sets d to (compactOf false (stream d from len)) → (at : Places) → at ≡ nextPlaces to from false (stream d from len) → (d′ ≡ sets s 0 (packedOf (repackStreams k (take len s)))) × (at .to ≡ length (packedOf (repackStreams k (take len s))))
+      pub repacking-end : Bytes s → (d′ : List ℕ) → d′ ≡ sets d to (compactOf false (stream d from len)) → (at : Places)
+          → at ≡ nextPlaces to from false (stream d from len)
+          → (d′ ≡ sets s 0 (packedOf (repackStreams k (take len s)))) × (at .to ≡ length (packedOf (repackStreams k (take len s))))
       repacking-end bytes d′ b at a =
           let next : List ℕ → Repacked = λ t. repacked [] in
-          let all : repacked (z .done ++ compactOf false rest) ≡ repackStreams k (take len s) = rw append-nil at (next-rest false next last-is bytes d′ b at a) in
+          let all : repacked (z .done ++ compactOf false rest) ≡ repackStreams k (take len s) =
+          rw append-nil at (next-rest false next last-is bytes d′ b at a) in
           rw (← all) (next-now false next last-is bytes d′ b at a, sym (next-size false next last-is bytes d′ b at a))

@@ -28,7 +28,8 @@ ahead-unreadable : (q : List ℕ) (x : Repacked) → Unreadable x → Unreadable
 ahead-unreadable q (unread e) h = h
 ahead-unreadable q (repacked v) h = tt
 
-reading-unreadable : (sd : Bool) (next : List ℕ → Repacked) (p : List ℕ) → ((t : List ℕ) → Unreadable (next t)) → (x : Reading) → Unreadable (repackReading sd next p x)
+reading-unreadable : (sd : Bool) (next : List ℕ → Repacked) (p : List ℕ) → ((t : List ℕ) → Unreadable (next t)) → (x : Reading)
+    → Unreadable (repackReading sd next p x)
 reading-unreadable sd next p h (refused rule) = (rule, refl)
 reading-unreadable sd next p h (accepted toc ns first taken) = ahead-unreadable _ (next (drop taken p)) (h (drop taken p))
 

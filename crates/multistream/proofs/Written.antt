@@ -94,7 +94,8 @@ module _ (k : ℕ) (p : List ℕ) (bytes : Bytes p) (xs : List Stream) (r : read
         (take at p ++ filled, pad-writes, last .keeps filled filled-reads, omega (arith, length-append (take at p) filled, filled-size, inside))
 
 -- ---- the packet in the first len bytes of a buffer
-module _ (s : List ℕ) (bytes : Bytes s) (len : ℕ) (fits : len ≤ length s) (most : len ≤ 65535) (k : ℕ) (few : suc k ≤ 255) (xs : List Stream) (r : readStreams k (take len s) ≡ streams xs) where
+module _ (s : List ℕ) (bytes : Bytes s) (len : ℕ) (fits : len ≤ length s) (most : len ≤ 65535) (k : ℕ) (few : suc k ≤ 255) (xs : List Stream)
+    (r : readStreams k (take len s) ≡ streams xs) where
   all-bytes : Bytes (take len s)
   all-bytes = bytes-take len s bytes
 

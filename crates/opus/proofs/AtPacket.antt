@@ -51,7 +51,8 @@ pub end-found : (f : FramesAt) (first sum : ℕ) → f ≡ At first sum → endO
 end-found f first sum e = rw e
 
 -- m bytes are `at` bytes, n bytes in which the frames were read, and the padding
-packet-of : (m n toc count at pad : ℕ) (r : Front) (l : List ℕ) → Within n count r → framesLent r l → m ≡ at + n + pad → answerOf (headAt toc count at pad (framesAt n r)) l ≡ packetOf (accept m toc pad r)
+packet-of : (m n toc count at pad : ℕ) (r : Front) (l : List ℕ) → Within n count r → framesLent r l → m ≡ at + n + pad
+    → answerOf (headAt toc count at pad (framesAt n r)) l ≡ packetOf (accept m toc pad r)
 packet-of m n toc count at pad (broken r) l w g e = refl
 packet-of m n toc count at pad (front ns t) l w g e =
     let first : m - pad - length t ≡ at + (n - length t) = omega arith in
@@ -62,7 +63,8 @@ packet-fits m n count at pad (broken r) w e = omega arith
 packet-fits m n count at pad (front ns t) w e = omega arith
 
 -- the same of an answer f that is those frames, with their lengths in the array
-module _ (s : List ℕ) (m toc count at pad : ℕ) (r : Front) (w : Within (length s) count r) (e : m ≡ at + length s + pad) (f : FramesAt) (l : List ℕ) (g : FramesRead s r f l) where
+module _ (s : List ℕ) (m toc count at pad : ℕ) (r : Front) (w : Within (length s) count r) (e : m ≡ at + length s + pad) (f : FramesAt) (l : List ℕ)
+    (g : FramesRead s r f l) where
   answer-of : answerOf (headAt toc count at pad f) l ≡ packetOf (accept m toc pad r)
   answer-of = rw (g .0) (packet-of m (length s) toc count at pad r l w (g .1) e)
 
@@ -78,7 +80,8 @@ pub rule-unequal : (v : ℕ) → (v ≡ 0 → ⊥) → R7 ≡ sizeRule v
 rule-unequal zero n = absurd (n refl)
 rule-unequal (suc v) n = refl
 
-unfit-refused : (sd : Bool) (k m toc v count : ℕ) (f : Field) → paddingAt k f ≡ Unfit → noPacket (ruleRefusal (sizeRule v)) ≡ packetOf (behindPadding sd m toc v count f)
+unfit-refused : (sd : Bool) (k m toc v count : ℕ) (f : Field) → paddingAt k f ≡ Unfit
+    → noPacket (ruleRefusal (sizeRule v)) ≡ packetOf (behindPadding sd m toc v count f)
 unfit-refused sd k m toc v count noField e = refl
 unfit-refused sd k m toc v count (field pad t) e = by-test (ltb (length t) pad) (λ b. rw b) (λ b. never (let q = rw b at e in cc))
 
@@ -94,8 +97,11 @@ abbrev padding : List ℕ → Field
 padding d = readPadding (getD d 1 0 / 64 % 2) (part d 2 (length d))
 
 module _ (sd : Bool) (d : List ℕ) (count : ℕ) where
-  pub body-unfit : paddingAt (length (part d 2 (length d))) (padding d) ≡ Unfit → noPacket (ruleRefusal (sizeRule (getD d 1 0 / 128 % 2))) ≡ packetOf (body sd d count)
-  body-unfit e = unfit-refused sd (length (drop 2 d)) (length d) (getD d 0 0) (getD d 1 0 / 128 % 2) count (readPadding (getD d 1 0 / 64 % 2) (drop 2 d)) (rw (part-to-end d 2) at e)
+  pub body-unfit : paddingAt (length (part d 2 (length d))) (padding d) ≡ Unfit
+      → noPacket (ruleRefusal (sizeRule (getD d 1 0 / 128 % 2))) ≡ packetOf (body sd d count)
+  body-unfit e =
+      unfit-refused sd (length (drop 2 d)) (length d) (getD d 0 0) (getD d 1 0 / 128 % 2) count (readPadding (getD d 1 0 / 64 % 2) (drop 2 d))
+      (rw (part-to-end d 2) at e)
 
   module _ (h : 2 ≤ length d) (pad next : ℕ) (e : paddingAt (length (part d 2 (length d))) (padding d) ≡ Whole pad next) where
     was : Padded (getD d 1 0 / 64 % 2) (drop 2 d) pad next
@@ -111,20 +117,25 @@ module _ (sd : Bool) (d : List ℕ) (count : ℕ) where
     all-bytes : length d ≡ 2 + next + length inner + pad
     unfolding inner
     all-bytes =
-        let l : length inner ≡ length d - pad - (2 + next) = length-take-le (length d - pad - (2 + next)) (drop (2 + next) d) (omega (arith, body-room, length-drop (2 + next) d)) in
+        let l : length inner ≡ length d - pad - (2 + next) =
+        length-take-le (length d - pad - (2 + next)) (drop (2 + next) d) (omega (arith, body-room, length-drop (2 + next) d)) in
         omega (arith, body-room)
 
     reads : body sd d count ≡ accept (length d) (getD d 0 0) pad (frames3 sd (getD d 1 0 / 128 % 2) count inner)
     unfolding inner
     reads =
         let left : length (drop (2 + next) d) - pad ≡ length d - pad - (2 + next) = omega (arith, length-drop (2 + next) d) in
-        let enough : ltb (length (drop (2 + next) d)) pad ≡ false = le-ltb (length (drop (2 + next) d)) pad (omega (arith, body-room, length-drop (2 + next) d)) in
+        let enough : ltb (length (drop (2 + next) d)) pad ≡ false =
+        le-ltb (length (drop (2 + next) d)) pad (omega (arith, body-room, length-drop (2 + next) d)) in
         rw (was .means, drop-drop next 2 d, enough, left)
 
-    module _ (one : 1 ≤ count) (f : FramesAt) (l : List ℕ) (g : FramesRead (part d (2 + next) (length d - pad)) (frames3 sd (getD d 1 0 / 128 % 2) count (part d (2 + next) (length d - pad))) f l) where
+    module _ (one : 1 ≤ count) (f : FramesAt) (l : List ℕ)
+        (g : FramesRead (part d (2 + next) (length d - pad)) (frames3 sd (getD d 1 0 / 128 % 2) count (part d (2 + next) (length d - pad))) f l) where
       pub body-fits : 2 + next + endOf f + pad ≤ length d
       unfolding inner
-      body-fits = answer-fits inner (length d) (getD d 0 0) count (2 + next) pad (frames3 sd (getD d 1 0 / 128 % 2) count inner) (frames-within inner count sd (getD d 1 0 / 128 % 2) one) all-bytes f l g
+      body-fits =
+          answer-fits inner (length d) (getD d 0 0) count (2 + next) pad (frames3 sd (getD d 1 0 / 128 % 2) count inner)
+          (frames-within inner count sd (getD d 1 0 / 128 % 2) one) all-bytes f l g
 
       pub body-read : (h : PacketHead) → h ≡ headAt (getD d 0 0) count (2 + next) pad f → answerOf h l ≡ packetOf (body sd d count)
       unfolding inner
@@ -147,7 +158,8 @@ module _ (toc count n : ℕ) (b : toc < 256) (e : n ≡ samples 48000 (configura
 
 module _ (sd : Bool) where
   -- a packet that is long enough for its count byte
-  three-is : (d : List ℕ) → 2 ≤ length d → read3 sd (length d) (getD d 0 0) (drop 1 d) ≡ cond (lasts (upperSix (getD d 0 0)) (getD d 1 0 % 64)) (body sd d (getD d 1 0 % 64)) (refused R5)
+  three-is : (d : List ℕ) → 2 ≤ length d
+      → read3 sd (length d) (getD d 0 0) (drop 1 d) ≡ cond (lasts (upperSix (getD d 0 0)) (getD d 1 0 % 64)) (body sd d (getD d 1 0 % 64)) (refused R5)
   three-is [] h = absurd (omega arith)
   three-is (toc ∷ []) h = absurd (omega arith)
   three-is (toc ∷ c ∷ s) h = refl
@@ -168,7 +180,8 @@ module _ (sd : Bool) where
       pub three-long : leb (getD d 1 0 % 64 * n) 5760 ≡ false → noPacket (ruleRefusal R5) ≡ packetOf (read3 sd (length d) (getD d 0 0) (drop 1 d))
       three-long t = rw (three-is d h, ← lasting, t)
 
-      pub three-read : leb (getD d 1 0 % 64 * n) 5760 ≡ true → (x : Packet) → x ≡ packetOf (body sd d (getD d 1 0 % 64)) → x ≡ packetOf (read3 sd (length d) (getD d 0 0) (drop 1 d))
+      pub three-read : leb (getD d 1 0 % 64 * n) 5760 ≡ true → (x : Packet) → x ≡ packetOf (body sd d (getD d 1 0 % 64))
+          → x ≡ packetOf (read3 sd (length d) (getD d 0 0) (drop 1 d))
       three-read t x e = rw (three-is d h, ← lasting, t) e
 
 -- ---- the codes
@@ -210,7 +223,8 @@ abbrev equalIn : Bool → List ℕ → Front
 equalIn sd s = equal sd R3 2 s
 
 module _ (sd : Bool) (d : List ℕ) (h : 1 ≤ length d) where
-  module _ (k count : ℕ) (c : k + 1 ≡ count) (r : Rule) (f : FramesAt) (l : List ℕ) (g : FramesRead (part d 1 (length d)) (unequalIn sd r k (part d 1 (length d))) f l) where
+  module _ (k count : ℕ) (c : k + 1 ≡ count) (r : Rule) (f : FramesAt) (l : List ℕ)
+      (g : FramesRead (part d 1 (length d)) (unequalIn sd r k (part d 1 (length d))) f l) where
     pub unequal-fits : 1 + endOf f + 0 ≤ length d
     unequal-fits = rest-fits d h count (unequalIn sd r k) (λ s. unequal-within s count sd r k c) f l g
 
@@ -233,7 +247,8 @@ module _ (sd : Bool) (d : List ℕ) (h : 1 ≤ length d) where
     pub code-1 : (x : PacketHead) → x ≡ headAt (getD d 0 0) 2 1 0 f → getD d 0 0 % 4 ≡ 1 → answerOf x l ≡ packetOf (read sd d)
     code-1 x y e = rw (y, by-code sd d h, e) (rest-read d h 2 (equalIn sd) (λ s. equal-within s 2 sd R3) f l g)
 
-  pub code-3 : (getD d 0 0 % 4 ≡ 0 → ⊥) → (getD d 0 0 % 4 ≡ 1 → ⊥) → (getD d 0 0 % 4 ≡ 2 → ⊥) → packetOf (read3 sd (length d) (getD d 0 0) (drop 1 d)) ≡ packetOf (read sd d)
+  pub code-3 : (getD d 0 0 % 4 ≡ 0 → ⊥) → (getD d 0 0 % 4 ≡ 1 → ⊥) → (getD d 0 0 % 4 ≡ 2 → ⊥)
+      → packetOf (read3 sd (length d) (getD d 0 0) (drop 1 d)) ≡ packetOf (read sd d)
   code-3 n₀ n₁ n₂ = rw (by-code sd d h, third sd (getD d 0 0 % 4) (length d) (getD d 0 0) (drop 1 d) n₀ n₁ n₂)
 
 -- ---- the tests on the length

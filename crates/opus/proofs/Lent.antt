@@ -42,5 +42,6 @@ none-parsed sd p c v =
     (λ t. let w = rw t at v in let same : BadArg ≡ c = cc in rw (t, same))
     (λ t. rw t (none-of (read sd p) c (rw t at v)))
 
-pub lent-refused : (sd : Bool) (p : List ℕ) (h : PacketHead) (l : List ℕ) → answerOf h l ≡ parsed sd p → (c : Refusal) → h .verdict ≡ Refused c → noPacket c ≡ parsed sd p
+pub lent-refused : (sd : Bool) (p : List ℕ) (h : PacketHead) (l : List ℕ) → answerOf h l ≡ parsed sd p → (c : Refusal) → h .verdict ≡ Refused c
+    → noPacket c ≡ parsed sd p
 lent-refused sd p h l e c v = none-parsed sd p c (sym (ap (λ (x : Packet). x .verdict) e) ∙ v)

@@ -30,7 +30,8 @@ pub record Read (sd : Bool) (p : List ℕ) (r : Packet) : Type 0 where
   pub means : read sd p ≡ accepted (r .toc) (lengthsOf r) (r .first) (r .taken)
 
 module _ (sd : Bool) (p : List ℕ) where
-  read-of : (toc : ℕ) (ns : List ℕ) (first taken : ℕ) → length p ≤ 65535 → read sd p ≡ accepted toc ns first taken → Read sd p (packetOf (accepted toc ns first taken))
+  read-of : (toc : ℕ) (ns : List ℕ) (first taken : ℕ) → length p ≤ 65535 → read sd p ≡ accepted toc ns first taken
+      → Read sd p (packetOf (accepted toc ns first taken))
   read-of toc ns first taken h q =
       record { short = h; inside = omega (arith, length-append ns (replicate (48 - length ns) 0)); means = rw (take-append-seam ns) q }
 

@@ -33,13 +33,15 @@ toc-read sd six c s h =
     rw is
 
 -- m bytes are the header, the frames from t on, and the padding
-accept-read : (m toc pad : ℕ) {f : Front} (ns t : List ℕ) (first : ℕ) → f ≡ front ns t → m ≡ first + length t + pad → accept m toc pad f ≡ accepted toc ns first (first + (total ns + pad))
+accept-read : (m toc pad : ℕ) {f : Front} (ns t : List ℕ) (first : ℕ) → f ≡ front ns t → m ≡ first + length t + pad
+    → accept m toc pad f ≡ accepted toc ns first (first + (total ns + pad))
 accept-read m toc pad ns t first e h =
     let place : m - pad - length t ≡ first = omega arith in
     rw (e, place) (ap (accepted toc ns first) (add-assoc first (total ns) pad))
 
 -- without padding: behind the TOC byte stands s, then the frames
-plain-read : (toc : ℕ) {f : Front} (s u ns : List ℕ) → f ≡ front ns u → accept (suc (length (s ++ u))) toc 0 f ≡ accepted toc ns (suc (length s)) (suc (length s) + (total ns + 0))
+plain-read : (toc : ℕ) {f : Front} (s u ns : List ℕ) → f ≡ front ns u
+    → accept (suc (length (s ++ u))) toc 0 f ≡ accepted toc ns (suc (length s)) (suc (length s) + (total ns + 0))
 plain-read toc s u ns e =
     accept-read (suc (length (s ++ u))) toc 0 ns u (suc (length s)) e (omega (arith, length-append s u))
 
@@ -50,7 +52,10 @@ holds-part sd k pad u h =
     record { enough = omega (arith, h .enough); full = λ e. omega (arith, h .full e) }
 
 -- code 3: behind the count byte stand the padding lengths and s, then the frames and the padding
-code3-read : (sd : Bool) (six v p count : ℕ) {chain : List ℕ} {pad : ℕ} (s u ns : List ℕ) → v < 2 → Lasts six count → Padding p chain pad → Holds sd (total ns + pad) u → ((t : List ℕ) → Holds sd (total ns) t → frames3 sd v count (s ++ t) ≡ front ns t) → read sd (tocByte six 3 ∷ countByte v p count ∷ ((chain ++ s) ++ u)) ≡ accepted (tocByte six 3) ns (suc (suc (length (chain ++ s)))) (suc (suc (length (chain ++ s))) + (total ns + pad))
+code3-read : (sd : Bool) (six v p count : ℕ) {chain : List ℕ} {pad : ℕ} (s u ns : List ℕ) → v < 2 → Lasts six count → Padding p chain pad
+    → Holds sd (total ns + pad) u → ((t : List ℕ) → Holds sd (total ns) t → frames3 sd v count (s ++ t) ≡ front ns t)
+    → read sd (tocByte six 3 ∷ countByte v p count ∷ ((chain ++ s) ++ u))
+    ≡ accepted (tocByte six 3) ns (suc (suc (length (chain ++ s)))) (suc (suc (length (chain ++ s))) + (total ns + pad))
 code3-read sd six v p count {chain} {pad} s u ns hv l d h e =
     let toc = tocByte six 3 in
     let k = length u - pad in
@@ -62,14 +67,16 @@ code3-read sd six v p count {chain} {pad} s u ns hv l d h e =
     let size : length (s ++ u) - pad ≡ length s + k = omega (arith, h .enough) in
     let body : take (length (s ++ u) - pad) (s ++ u) ≡ s ++ take k u = rw (size, take-append-add s u k) in
     let short : length (take k u) ≡ k = length-take-le k u (omega arith) in
-    let long : length (chain ++ (s ++ u)) ≡ length (chain ++ s) + length (take k u) + pad = omega (arith, h .enough, length-append chain (s ++ u), length-append chain s) in
+    let long : length (chain ++ (s ++ u)) ≡ length (chain ++ s) + length (take k u) + pad =
+    omega (arith, h .enough, length-append chain (s ++ u), length-append chain s) in
     toc-read sd six 3 (countByte v p count ∷ ((chain ++ s) ++ u)) (omega arith)
     ∙ rw (same, byte-count v p count hv hp hc, byte-unequal v p count hv hp hc, byte-padded v p count hv hp hc, lasts-passes l, append-assoc chain s u, padding-read d (s ++ u), le-ltb (length (s ++ u)) pad fits, body)
     (accept-read (suc (suc (length (chain ++ (s ++ u))))) toc pad ns (take k u) (suc (suc (length (chain ++ s)))) (e (take k u) (holds-part sd (total ns) pad u h)) (omega arith))
 
 -- ---- headers
 -- what a header says is read, with any bytes behind it that hold frames and padding
-pub layout-read : {sd : Bool} {six : ℕ} {head ns : List ℕ} {pad : ℕ} → Layout sd six head ns pad → longest ns ≤ mostBytes → (u : List ℕ) → Holds sd (total ns + pad) u → read sd (head ++ u) ≡ accepted (getD head 0 0) ns (length head) (length head + (total ns + pad))
+pub layout-read : {sd : Bool} {six : ℕ} {head ns : List ℕ} {pad : ℕ} → Layout sd six head ns pad → longest ns ≤ mostBytes → (u : List ℕ)
+    → Holds sd (total ns + pad) u → read sd (head ++ u) ≡ accepted (getD head 0 0) ns (length head) (length head + (total ns + pad))
 layout-read {sd} {six} (code0 n) h u k =
     toc-read sd six 0 (ownLength sd n ++ u) (omega arith)
     ∙ plain-read (tocByte six 0) (ownLength sd n) u (n ∷ [])
@@ -92,7 +99,8 @@ layout-read {sd} {six} (code3unequal ns n {p} l d) h u k =
     (λ t w. rw others (behind-read sd R7 ns n t h w))
 
 -- the first byte of a header holds the six bits
-pub layout-toc : {sd : Bool} {six : ℕ} {head ns : List ℕ} {pad : ℕ} → Layout sd six head ns pad → (u : List ℕ) → (getD (head ++ u) 0 0 ≡ getD head 0 0) × (upperSix (getD head 0 0) ≡ six)
+pub layout-toc : {sd : Bool} {six : ℕ} {head ns : List ℕ} {pad : ℕ} → Layout sd six head ns pad → (u : List ℕ)
+    → (getD (head ++ u) 0 0 ≡ getD head 0 0) × (upperSix (getD head 0 0) ≡ six)
 layout-toc (code0 n) u = (refl, omega arith)
 layout-toc (code1 n) u = (refl, omega arith)
 layout-toc (code2 m n) u = (refl, omega arith)
@@ -108,7 +116,10 @@ holds-behind sd s rest b = record { enough = omega (arith, length-append s rest)
     full false b e = rw (b, append-nil s) (omega arith)
     full true b e = never (cc)
 
-packet-read : {sd : Bool} {six : ℕ} (head padding : List ℕ) (frames : List (List ℕ)) → Layout sd six head (lengths frames) (length padding) → longest (lengths frames) ≤ mostBytes → (rest : List ℕ) → Behind sd rest → read sd (head ++ (joined frames ++ padding) ++ rest) ≡ accepted (getD (head ++ (joined frames ++ padding)) 0 0) (lengths frames) (length head) (length (head ++ (joined frames ++ padding)))
+packet-read : {sd : Bool} {six : ℕ} (head padding : List ℕ) (frames : List (List ℕ)) → Layout sd six head (lengths frames) (length padding)
+    → longest (lengths frames) ≤ mostBytes → (rest : List ℕ) → Behind sd rest
+    → read sd (head ++ (joined frames ++ padding) ++ rest)
+    ≡ accepted (getD (head ++ (joined frames ++ padding)) 0 0) (lengths frames) (length head) (length (head ++ (joined frames ++ padding)))
 packet-read {sd} head padding frames l h rest b =
     let s = joined frames ++ padding in
     let size : total (lengths frames) + length padding ≡ length s = omega (arith, total-lengths frames, length-append (joined frames) padding) in
@@ -116,12 +127,14 @@ packet-read {sd} head padding frames l h rest b =
     rw (append-assoc head s rest, long, layout-toc l s .0)
     (layout-read l h (s ++ rest) (rw size (holds-behind sd s rest b)))
 
-packet-frames : (head padding : List ℕ) (frames : List (List ℕ)) (rest : List ℕ) → cut (lengths frames) (drop (length head) (head ++ (joined frames ++ padding) ++ rest)) ≡ frames
+packet-frames : (head padding : List ℕ) (frames : List (List ℕ)) (rest : List ℕ)
+    → cut (lengths frames) (drop (length head) (head ++ (joined frames ++ padding) ++ rest)) ≡ frames
 packet-frames head padding frames rest =
     rw (append-assoc head (joined frames ++ padding) rest, drop-append-seam head, append-assoc (joined frames) padding rest)
     (cut-joined frames (padding ++ rest))
 
-pub spelled-read : {sd : Bool} {six : ℕ} {p : List ℕ} {frames : List (List ℕ)} (w : Spells sd six p frames) (rest : List ℕ) → Behind sd rest → read sd (p ++ rest) ≡ accepted (getD p 0 0) (lengths frames) (length (w .head)) (length p)
+pub spelled-read : {sd : Bool} {six : ℕ} {p : List ℕ} {frames : List (List ℕ)} (w : Spells sd six p frames) (rest : List ℕ) → Behind sd rest
+    → read sd (p ++ rest) ≡ accepted (getD p 0 0) (lengths frames) (length (w .head)) (length p)
 spelled-read {frames = frames} w rest b =
     cc (w .bytes, packet-read (w .head) (w .padding) frames (w .layout) (w .small) rest b)
 
@@ -131,7 +144,8 @@ spelled-six {frames = frames} w =
     let toc = layout-toc (w .layout) (joined frames ++ w .padding) in
     rw (w .bytes, toc .0) (toc .1)
 
-pub spelled-frames : {sd : Bool} {six : ℕ} {p : List ℕ} {frames : List (List ℕ)} (w : Spells sd six p frames) (rest : List ℕ) → Behind sd rest → framesOf (p ++ rest) (read sd (p ++ rest)) ≡ frames
+pub spelled-frames : {sd : Bool} {six : ℕ} {p : List ℕ} {frames : List (List ℕ)} (w : Spells sd six p frames) (rest : List ℕ) → Behind sd rest
+    → framesOf (p ++ rest) (read sd (p ++ rest)) ≡ frames
 unfolding framesOf
 spelled-frames {frames = frames} w rest b =
     rw (spelled-read w rest b, w .bytes) (packet-frames (w .head) (w .padding) frames rest)

@@ -31,7 +31,8 @@ pub byte-whole : (c : ℕ) → c < 256 → countByte (c / 128 % 2) (c / 64 % 2) 
 byte-whole c h = omega arith
 
 -- ---- a frame lasts 2.5 to 60 ms
-entry-between : (l : List ℕ) (n : ℕ) → everyBelow n (λ i. leb 25 (getD l i 0) && leb (getD l i 0) 600) ≡ true → (i : ℕ) → i < n → (25 ≤ getD l i 0) × (getD l i 0 ≤ 600)
+entry-between : (l : List ℕ) (n : ℕ) → everyBelow n (λ i. leb 25 (getD l i 0) && leb (getD l i 0) 600) ≡ true → (i : ℕ) → i < n
+    → (25 ≤ getD l i 0) × (getD l i 0 ≤ 600)
 entry-between l n e i h =
     let x = getD l i 0 in
     let t = every-at n (λ i. leb 25 (getD l i 0) && leb (getD l i 0) 600) e i h in

@@ -50,7 +50,8 @@ pub record Facts (m toc : ℕ) (ns : List ℕ) (first taken : ℕ) : Type 0 wher
   -- R5, in samples at 48 kHz
   pub short : time toc (length ns) ≤ 5760
 
-pub facts : (sd : Bool) (p : List ℕ) (toc : ℕ) (ns : List ℕ) (first taken : ℕ) → Bytes p → read sd p ≡ accepted toc ns first taken → Facts (length p) toc ns first taken
+pub facts : (sd : Bool) (p : List ℕ) (toc : ℕ) (ns : List ℕ) (first taken : ℕ) → Bytes p → read sd p ≡ accepted toc ns first taken
+    → Facts (length p) toc ns first taken
 facts sd p toc ns first taken bytes r =
     let w = read-spelled sd p toc ns first taken bytes r in
     let frames = cut ns (drop first p) in

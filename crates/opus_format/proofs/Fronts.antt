@@ -54,7 +54,8 @@ module _ (of : ℕ → List ℕ) (s ns t : List ℕ) (n : ℕ) where
       record { last = n; same = same; spelled = place; small = ltb-false mostBytes n d; holds = omega arith })
 
   -- s says the number, and `need` bytes are enough
-  own-was : (u : List ℕ) (need : ℕ) → total (of n) ≡ need → Bytes s → readField s ≡ field n u → cond (ltb (length u) need) (broken R8) (front (of n) u) ≡ front ns t → FrontWas true of s ns t
+  own-was : (u : List ℕ) (need : ℕ) → total (of n) ≡ need → Bytes s → readField s ≡ field n u
+      → cond (ltb (length u) need) (broken R8) (front (of n) u) ≡ front ns t → FrontWas true of s ns t
   own-was u need size bytes f e =
       by-test (ltb (length u) need) (λ d. never (cc))
       (λ d.
@@ -69,7 +70,8 @@ module _ (of : ℕ → List ℕ) (s ns t : List ℕ) (n : ℕ) where
 abbrev pub ending : List ℕ → ℕ → List ℕ
 ending ns n = ns ++ (n ∷ [])
 
-pub unequal-read : (sd : Bool) (r : Rule) (ns : List ℕ) (n : ℕ) (t : List ℕ) → n ≤ mostBytes → Holds sd (total (ending ns n)) t → unequal sd r ns (ownLength sd n ++ t) ≡ front (ending ns n) t
+pub unequal-read : (sd : Bool) (r : Rule) (ns : List ℕ) (n : ℕ) (t : List ℕ) → n ≤ mostBytes → Holds sd (total (ending ns n)) t
+    → unequal sd r ns (ownLength sd n ++ t) ≡ front (ending ns n) t
 unequal-read false r ns n t h k =
     let size : length t ≡ total ns + n = omega (arith, k .full refl, total-snoc ns n) in
     let last : length t - total ns ≡ n = omega arith in
@@ -95,7 +97,8 @@ unequal-was sd r ns s ms t bytes e =
     (λ d. last-was sd ns s ms t bytes (ltb-false (length s) (total ns) d) (rw d at e))
 
 -- ---- frames of one length
-pub equal-read : (sd : Bool) (r : Rule) (count n : ℕ) (t : List ℕ) → 1 ≤ count → n ≤ mostBytes → Holds sd (total (replicate count n)) t → equal sd r count (ownLength sd n ++ t) ≡ front (replicate count n) t
+pub equal-read : (sd : Bool) (r : Rule) (count n : ℕ) (t : List ℕ) → 1 ≤ count → n ≤ mostBytes → Holds sd (total (replicate count n)) t
+    → equal sd r count (ownLength sd n ++ t) ≡ front (replicate count n) t
 equal-read false r count n t c h k =
     let size : length t ≡ count * n = omega (arith, k .full refl, total-same count n) in
     let even : length t % count ≡ 0 = rw (size, mul-mod-right count n) in
@@ -120,7 +123,8 @@ equal-was true r count s ms t bytes e = go (readField s) refl e
     go (field n u) d e = own-was (replicate count) s ms t n u (count * n) (total-same count n) bytes d e
 
 -- ---- behind the length fields of all frames but the last
-pub behind-read : (sd : Bool) (r : Rule) (ns : List ℕ) (n : ℕ) (t : List ℕ) → longest (ending ns n) ≤ mostBytes → Holds sd (total (ending ns n)) t → behindFields sd r (readFields (length ns) ((lengthFields ns ++ ownLength sd n) ++ t)) ≡ front (ending ns n) t
+pub behind-read : (sd : Bool) (r : Rule) (ns : List ℕ) (n : ℕ) (t : List ℕ) → longest (ending ns n) ≤ mostBytes → Holds sd (total (ending ns n)) t
+    → behindFields sd r (readFields (length ns) ((lengthFields ns ++ ownLength sd n) ++ t)) ≡ front (ending ns n) t
 behind-read sd r ns n t h k =
     rw (append-assoc (lengthFields ns) (ownLength sd n) t, fields-read ns (ownLength sd n ++ t) (omega (arith, longest-snoc ns n)))
     (unequal-read sd r ns n t (omega (arith, longest-snoc ns n)) k)

@@ -34,7 +34,8 @@ chain-was : (s : List ℕ) (pad : ℕ) (rest : List ℕ) → Bytes s → readCha
 chain-was [] pad rest bytes r = never (cc)
 chain-was (a ∷ s) pad rest bytes r = go (λ n t. chain-was s n t (bytes-tail bytes)) (eqb a 255) refl (readChain s) refl
   where
-    go : ((n : ℕ) (t : List ℕ) → readChain s ≡ field n t → ChainWas s n t) → (b : Bool) → eqb a 255 ≡ b → (f : Field) → readChain s ≡ f → ChainWas (a ∷ s) pad rest
+    go : ((n : ℕ) (t : List ℕ) → readChain s ≡ field n t → ChainWas s n t) → (b : Bool) → eqb a 255 ≡ b → (f : Field) → readChain s ≡ f
+        → ChainWas (a ∷ s) pad rest
     go ih true e noField d = never (cc)
     go ih true e (field n t) d =
         let w = ih n t d in

@@ -49,7 +49,8 @@ record Body (sd : Bool) (L : List ℕ → List ℕ → Type 0) (s ns t : List �
   holds : Holds sd (total ns) t
 
 -- where the lengths go by one number
-front-body : {sd : Bool} {of : ℕ → List ℕ} {s ns t : List ℕ} (L : List ℕ → List ℕ → Type 0) → ((n : ℕ) → L (ownLength sd n) (of n)) → ((n : ℕ) → longest (of n) ≡ n) → FrontWas sd of s ns t → Body sd L s ns t
+front-body : {sd : Bool} {of : ℕ → List ℕ} {s ns t : List ℕ} (L : List ℕ → List ℕ → Type 0) → ((n : ℕ) → L (ownLength sd n) (of n))
+    → ((n : ℕ) → longest (of n) ≡ n) → FrontWas sd of s ns t → Body sd L s ns t
 front-body {sd} L layout most w =
     record {
       part = ownLength sd (w .last);
@@ -84,7 +85,8 @@ module _ (sd : Bool) (toc : ℕ) (s ns t : List ℕ) (bytes : Bytes s) where
       let w = behind-was sd R4 1 s ns t bytes e in
       go (w .others) (w .last) (w .count) (w .same) (w .spelled) (w .small) (w .holds)
     where
-      go : (ms : List ℕ) (n : ℕ) → length ms ≡ 1 → ns ≡ ms ++ (n ∷ []) → s ≡ lengthFields ms ++ ownLength sd n ++ t → longest ns ≤ mostBytes → Holds sd (total ns) t → Body sd (Plain sd toc) s ns t
+      go : (ms : List ℕ) (n : ℕ) → length ms ≡ 1 → ns ≡ ms ++ (n ∷ []) → s ≡ lengthFields ms ++ ownLength sd n ++ t → longest ns ≤ mostBytes
+          → Holds sd (total ns) t → Body sd (Plain sd toc) s ns t
       go [] n one same spelled small holds = absurd (omega arith)
       go (m ∷ []) n one same spelled small holds =
           record {
@@ -100,12 +102,14 @@ module _ (sd : Bool) (toc : ℕ) (s ns t : List ℕ) (bytes : Bytes s) where
 module _ (sd : Bool) (six p count pad : ℕ) (a s ns t : List ℕ) (l : Lasts six count) (d : Padding p a pad) (bytes : Bytes s) where
   body3 : (v : ℕ) → v < 2 → frames3 sd v count s ≡ front ns t → Body sd (λ b ns. Layout sd six (tocByte six 3 ∷ countByte v p count ∷ (a ++ b)) ns pad) s ns t
   body3 zero h e =
-      front-body (λ b ns. Layout sd six (tocByte six 3 ∷ countByte 0 p count ∷ (a ++ b)) ns pad) (λ n. code3equal count n l d) (λ n. longest-same count n (l .some)) (equal-was sd R6 count s ns t bytes e)
+      front-body (λ b ns. Layout sd six (tocByte six 3 ∷ countByte 0 p count ∷ (a ++ b)) ns pad) (λ n. code3equal count n l d)
+      (λ n. longest-same count n (l .some)) (equal-was sd R6 count s ns t bytes e)
   body3 (suc zero) h e =
       let w = behind-was sd R7 (count - 1) s ns t bytes e in
       let many : suc (length (w .others)) ≡ count = omega (arith, w .count, l .some) in
       let part = lengthFields (w .others) ++ ownLength sd (w .last) in
-      let k : Layout sd six (tocByte six 3 ∷ countByte 1 p (suc (length (w .others))) ∷ (a ++ part)) (w .others ++ (w .last ∷ [])) pad = code3unequal (w .others) (w .last) (rw many l) d in
+      let k : Layout sd six (tocByte six 3 ∷ countByte 1 p (suc (length (w .others))) ∷ (a ++ part)) (w .others ++ (w .last ∷ [])) pad =
+      code3unequal (w .others) (w .last) (rw many l) d in
       record {
         part = part;
         spelled = w .spelled;
@@ -138,7 +142,9 @@ holds-whole sd k t q h =
 -- toc is the byte that was read, toc′ the one that the reading says
 module _ (sd : Bool) (toc toc′ : ℕ) (ns : List ℕ) (first taken : ℕ) where
   -- behind the TOC byte stand a, then s with the frames, then padding q
-  accept-laid : (a s q : List ℕ) (f : Front) → ((t : List ℕ) → f ≡ front ns t → Body sd (λ b ns. Layout sd (upperSix toc) (toc ∷ (a ++ b)) ns (length q)) s ns t) → accept (suc (length (a ++ (s ++ q)))) toc (length q) f ≡ accepted toc′ ns first taken → Laid sd (toc ∷ (a ++ (s ++ q))) toc′ ns first taken
+  accept-laid : (a s q : List ℕ) (f : Front)
+      → ((t : List ℕ) → f ≡ front ns t → Body sd (λ b ns. Layout sd (upperSix toc) (toc ∷ (a ++ b)) ns (length q)) s ns t)
+      → accept (suc (length (a ++ (s ++ q)))) toc (length q) f ≡ accepted toc′ ns first taken → Laid sd (toc ∷ (a ++ (s ++ q))) toc′ ns first taken
   accept-laid a s q (broken r) body e = never (cc)
   accept-laid a s q (front ms t) body e =
       let same : ms ≡ ns = cc in
@@ -163,11 +169,15 @@ module _ (sd : Bool) (toc toc′ : ℕ) (ns : List ℕ) (first taken : ℕ) wher
         toc-is = sym tocs;
       }
 
-  plain-laid : (s : List ℕ) (f : Front) → ((t : List ℕ) → f ≡ front ns t → Body sd (Plain sd toc) s ns t) → accept (suc (length s)) toc 0 f ≡ accepted toc′ ns first taken → Laid sd (toc ∷ s) toc′ ns first taken
+  plain-laid : (s : List ℕ) (f : Front) → ((t : List ℕ) → f ≡ front ns t → Body sd (Plain sd toc) s ns t)
+      → accept (suc (length s)) toc 0 f ≡ accepted toc′ ns first taken → Laid sd (toc ∷ s) toc′ ns first taken
   unfolding Plain
   plain-laid s f body e = rw (append-nil s) at (accept-laid [] s [] f body (rw (append-nil s) e))
 
-  code3-laid : (c : ℕ) (a u : List ℕ) (pad : ℕ) → toc % 4 ≡ 3 → c < 256 → Bytes u → Lasts (upperSix toc) (c % 64) → Padding (c / 64 % 2) a pad → pad ≤ length u → accept (suc (suc (length (a ++ u)))) toc pad (frames3 sd (c / 128 % 2) (c % 64) (take (length u - pad) u)) ≡ accepted toc′ ns first taken → Laid sd (toc ∷ c ∷ (a ++ u)) toc′ ns first taken
+  code3-laid : (c : ℕ) (a u : List ℕ) (pad : ℕ) → toc % 4 ≡ 3 → c < 256 → Bytes u → Lasts (upperSix toc) (c % 64) → Padding (c / 64 % 2) a pad
+      → pad ≤ length u
+      → accept (suc (suc (length (a ++ u)))) toc pad (frames3 sd (c / 128 % 2) (c % 64) (take (length u - pad) u)) ≡ accepted toc′ ns first taken
+      → Laid sd (toc ∷ c ∷ (a ++ u)) toc′ ns first taken
   code3-laid c a u pad three byte bytes l d h e =
       let k = length u - pad in
       let s = take k u in
@@ -185,7 +195,8 @@ module _ (sd : Bool) (toc toc′ : ℕ) (ns : List ℕ) (first taken : ℕ) wher
       by-test (lasts (upperSix toc) (c % 64))
       (λ d. go (passed-lasts (upperSix toc) (c % 64) d) (readPadding (c / 64 % 2) s) refl (rw d at e)) (λ d. never (cc))
     where
-      go : Lasts (upperSix toc) (c % 64) → (f : Field) → readPadding (c / 64 % 2) s ≡ f → behindPadding sd (suc (suc (length s))) toc (c / 128 % 2) (c % 64) f ≡ accepted toc′ ns first taken → Laid sd (toc ∷ c ∷ s) toc′ ns first taken
+      go : Lasts (upperSix toc) (c % 64) → (f : Field) → readPadding (c / 64 % 2) s ≡ f
+          → behindPadding sd (suc (suc (length s))) toc (c / 128 % 2) (c % 64) f ≡ accepted toc′ ns first taken → Laid sd (toc ∷ c ∷ s) toc′ ns first taken
       go l noField d e = never (cc)
       go l (field pad u) d e =
           by-test (ltb (length u) pad) (λ f. never (cc))
@@ -195,7 +206,8 @@ module _ (sd : Bool) (toc toc′ : ℕ) (ns : List ℕ) (first taken : ℕ) wher
           rw (← w .spelled) at
           (code3-laid c (w .chain) u pad three (bytes .byte 0) inner l (w .padding) (ltb-false (length u) pad f) (rw (← w .spelled) (rw f at e))))
 
-read-laid : (sd : Bool) (p : List ℕ) (toc : ℕ) (ns : List ℕ) (first taken : ℕ) → Bytes p → read sd p ≡ accepted toc ns first taken → Laid sd p toc ns first taken
+read-laid : (sd : Bool) (p : List ℕ) (toc : ℕ) (ns : List ℕ) (first taken : ℕ) → Bytes p → read sd p ≡ accepted toc ns first taken
+    → Laid sd p toc ns first taken
 unfolding read
 read-laid sd [] toc ns first taken bytes e = never (cc)
 read-laid sd (a ∷ s) toc ns first taken bytes e = go (a % 4) refl e
@@ -217,11 +229,13 @@ behind-drop : (sd : Bool) (n : ℕ) (s : List ℕ) → (sd ≡ false → length 
 behind-drop false n s h = drop-of-length-le s (h refl)
 behind-drop true n s h = tt
 
-header-spelled : (sd : Bool) (toc : ℕ) (head rest ns : List ℕ) (pad : ℕ) → toc ≡ getD (head ++ rest) 0 0 → Layout sd (upperSix toc) head ns pad → longest ns ≤ mostBytes → Holds sd (total ns + pad) rest → Spelled sd (head ++ rest) toc ns (length head) (length head + (total ns + pad))
+header-spelled : (sd : Bool) (toc : ℕ) (head rest ns : List ℕ) (pad : ℕ) → toc ≡ getD (head ++ rest) 0 0 → Layout sd (upperSix toc) head ns pad
+    → longest ns ≤ mostBytes → Holds sd (total ns + pad) rest → Spelled sd (head ++ rest) toc ns (length head) (length head + (total ns + pad))
 header-spelled sd toc head rest ns pad tocs l small h =
     let after : drop (length head) (head ++ rest) ≡ rest = drop-append-seam head rest in
     let are : lengths (cut ns rest) ≡ ns = lengths-cut ns rest (omega arith) in
-    let long : length (take pad (drop (total ns) rest)) ≡ pad = length-take-le pad (drop (total ns) rest) (omega (arith, length-drop (total ns) rest, h .enough)) in
+    let long : length (take pad (drop (total ns) rest)) ≡ pad =
+    length-take-le pad (drop (total ns) rest) (omega (arith, length-drop (total ns) rest, h .enough)) in
     record {
       packet = record {
         head = head;
@@ -243,11 +257,13 @@ laid-spelled {sd} {toc = toc} {ns} w =
     rw (w .whole, w .place, w .size)
     (header-spelled sd toc (w .head) (w .rest) ns (w .pad) (rw (w .whole) at (w .toc-is)) (w .layout) (w .small) (w .holds))
 
-pub read-spelled : (sd : Bool) (p : List ℕ) (toc : ℕ) (ns : List ℕ) (first taken : ℕ) → Bytes p → read sd p ≡ accepted toc ns first taken → Spelled sd p toc ns first taken
+pub read-spelled : (sd : Bool) (p : List ℕ) (toc : ℕ) (ns : List ℕ) (first taken : ℕ) → Bytes p → read sd p ≡ accepted toc ns first taken
+    → Spelled sd p toc ns first taken
 read-spelled sd p toc ns first taken bytes r = laid-spelled (read-laid sd p toc ns first taken bytes r)
 
 -- ---- what stands behind
-laid-taken : {sd : Bool} {p : List ℕ} {toc : ℕ} {ns : List ℕ} {first taken : ℕ} → Laid sd p toc ns first taken → read sd (take taken p) ≡ accepted toc ns first taken
+laid-taken : {sd : Bool} {p : List ℕ} {toc : ℕ} {ns : List ℕ} {first taken : ℕ} → Laid sd p toc ns first taken
+    → read sd (take taken p) ≡ accepted toc ns first taken
 laid-taken {p = p} {toc} {ns} {taken = taken} w =
     let k = total ns + w .pad in
     let u = take k (w .rest) in
@@ -257,7 +273,8 @@ laid-taken {p = p} {toc} {ns} {taken = taken} w =
     cc (is, same, w .place, w .size, layout-read (w .layout) (w .small) u (omega arith))
 
 -- a self-delimited packet that is cut to the bytes taken reads the same
-pub read-taken : (sd : Bool) (p : List ℕ) (toc : ℕ) (ns : List ℕ) (first taken : ℕ) → Bytes p → read sd p ≡ accepted toc ns first taken → read sd (take taken p) ≡ accepted toc ns first taken
+pub read-taken : (sd : Bool) (p : List ℕ) (toc : ℕ) (ns : List ℕ) (first taken : ℕ) → Bytes p → read sd p ≡ accepted toc ns first taken
+    → read sd (take taken p) ≡ accepted toc ns first taken
 read-taken sd p toc ns first taken bytes r = laid-taken (read-laid sd p toc ns first taken bytes r)
 
 -- ordinary reading takes the whole packet

@@ -32,8 +32,10 @@ pub data Layout (sd : Bool) (six : ℕ) : List ℕ → List ℕ → ℕ → Type
   code0 : (n : ℕ) → Layout sd six (tocByte six 0 ∷ ownLength sd n) (n ∷ []) 0
   code1 : (n : ℕ) → Layout sd six (tocByte six 1 ∷ ownLength sd n) (n ∷ n ∷ []) 0
   code2 : (m n : ℕ) → Layout sd six (tocByte six 2 ∷ lengthField m ++ ownLength sd n) (m ∷ n ∷ []) 0
-  code3equal : (count n : ℕ) {p : ℕ} {chain : List ℕ} {pad : ℕ} → Lasts six count → Padding p chain pad → Layout sd six (tocByte six 3 ∷ countByte 0 p count ∷ (chain ++ ownLength sd n)) (replicate count n) pad
-  code3unequal : (ns : List ℕ) (n : ℕ) {p : ℕ} {chain : List ℕ} {pad : ℕ} → Lasts six (suc (length ns)) → Padding p chain pad → Layout sd six (tocByte six 3 ∷ countByte 1 p (suc (length ns)) ∷ (chain ++ (lengthFields ns ++ ownLength sd n))) (ns ++ (n ∷ [])) pad
+  code3equal : (count n : ℕ) {p : ℕ} {chain : List ℕ} {pad : ℕ} → Lasts six count → Padding p chain pad
+      → Layout sd six (tocByte six 3 ∷ countByte 0 p count ∷ (chain ++ ownLength sd n)) (replicate count n) pad
+  code3unequal : (ns : List ℕ) (n : ℕ) {p : ℕ} {chain : List ℕ} {pad : ℕ} → Lasts six (suc (length ns)) → Padding p chain pad
+      → Layout sd six (tocByte six 3 ∷ countByte 1 p (suc (length ns)) ∷ (chain ++ (lengthFields ns ++ ownLength sd n))) (ns ++ (n ∷ [])) pad
 
 -- the bytes p are a packet with these upper six TOC bits and these frames: what stands in front, the frames, the padding
 pub record Spells (sd : Bool) (six : ℕ) (p : List ℕ) (frames : List (List ℕ)) : Type 0 where

@@ -43,7 +43,8 @@ module _ {ns : List ℕ} {t f : ℕ} {alike : Bool} {i : ℕ} (k : Counted ns t 
     pub counted-small : longest ns ≤ mostBytes → t + n ≤ 1275 * (i + 1)
     counted-small s = omega (arith, k .small, longest-at ns i h, g)
 
-    pub counted-more : longest ns ≤ mostBytes → {b : ℕ} → b ≡ length (lengthField n) → {alike′ : Bool} → alike′ ≡ allAre (getD ns 0 0) (take (i + 1) ns) → Counted ns (t + n) (f + b) alike′ (i + 1)
+    pub counted-more : longest ns ≤ mostBytes → {b : ℕ} → b ≡ length (lengthField n) → {alike′ : Bool} → alike′ ≡ allAre (getD ns 0 0) (take (i + 1) ns)
+        → Counted ns (t + n) (f + b) alike′ (i + 1)
     counted-more short eb s =
         record {
           most = omega arith;
@@ -70,7 +71,9 @@ module _ {ns : List ℕ} {t f : ℕ} {alike : Bool} {i : ℕ} (k : Counted ns t 
 
     fields-whole : f ≡ length (lengthFields (firsts ns)) + length (lengthField z)
     fields-whole =
-        let w : lengthFields ns ≡ lengthFields (firsts ns) ++ lengthFields (last ns ∷ []) = ap lengthFields (sym (firsts-whole ns some)) ∙ fields-append (firsts ns) (last ns ∷ []) in
+        let w : lengthFields ns ≡ lengthFields (firsts ns) ++ lengthFields (last ns ∷ []) =
+        ap lengthFields (sym (firsts-whole ns some))
+        ∙ fields-append (firsts ns) (last ns ∷ []) in
         let l : length (lengthFields ns) ≡ length (lengthFields (firsts ns)) + length (lengthField z) = rw (w, ends, append-nil, length-append) in
         (rw all at (k .fields)) ∙ l
 
@@ -80,7 +83,8 @@ module _ {ns : List ℕ} {t f : ℕ} {alike : Bool} {i : ℕ} (k : Counted ns t 
       unfolding sumsOf
       counted-same s = rw (wt, wz, sum-whole, ← agree-whole, ends, s)
 
-      pub counted-differ : {b fw : ℕ} → b ≡ length (lengthField z) → fw ≡ f - b → alike ≡ false → record { total = tw; sizes = fw; same = alike; last = zw } ≡ sumsOf ns
+      pub counted-differ : {b fw : ℕ} → b ≡ length (lengthField z) → fw ≡ f - b → alike ≡ false
+          → record { total = tw; sizes = fw; same = alike; last = zw } ≡ sumsOf ns
       unfolding sumsOf
       counted-differ {b} eb wf s =
           let left : f - b ≡ length (lengthFields (firsts ns)) = omega (arith, fields-whole) in

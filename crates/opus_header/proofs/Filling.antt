@@ -18,7 +18,9 @@ use Rattle.opus_header.proofs.Chain.{chain-most}
 use Rattle.opus_header.proofs.Spelled.{compact-spelled, compact-unpadded, full-spelled, full-zeros}
 
 -- the bytes of code 3: two, the chain, the length fields, the frames and the padding
-length-full : (sd : Bool) (six : ℕ) (frames : List (List ℕ)) (n : ℕ) → length (full sd six frames n) ≡ 2 + length (chain n) + length (sizes (lengths frames)) + length (ownLength sd (last (lengths frames))) + length (joined frames) + padBytes n
+length-full : (sd : Bool) (six : ℕ) (frames : List (List ℕ)) (n : ℕ)
+    → length (full sd six frames n)
+    ≡ 2 + length (chain n) + length (sizes (lengths frames)) + length (ownLength sd (last (lengths frames))) + length (joined frames) + padBytes n
 unfolding full header
 length-full sd six frames n = simp (length-append, length-replicate) (omega arith)
 
@@ -54,7 +56,8 @@ module _ (sd : Bool) (six : ℕ) (frames : List (List ℕ)) (n : ℕ) (l : Lasts
   either-zeros true = (padBytes n, full-zeros sd six frames n l s)
   either-zeros false = (0, compact-unpadded sd six frames l s)
 
-pub filling-spelled : (sd : Bool) (six : ℕ) (frames : List (List ℕ)) (m : ℕ) → Lasts six (length frames) → longest (lengths frames) ≤ mostBytes → Spells sd six (filling sd six frames m) frames
+pub filling-spelled : (sd : Bool) (six : ℕ) (frames : List (List ℕ)) (m : ℕ) → Lasts six (length frames) → longest (lengths frames) ≤ mostBytes
+    → Spells sd six (filling sd six frames m) frames
 unfolding filling
 filling-spelled sd six frames m l s =
     either-spelled sd six frames (m - length (full sd six frames 0)) l s (ltb (length (compact sd six frames)) m)
@@ -63,7 +66,8 @@ zeros : (k : ℕ) (s : List ℕ) → s ≡ replicate k 0 → s ≡ replicate (le
 zeros k s e = rw (e, length-replicate)
 
 -- its padding bytes are zeros
-pub filling-zeros : (sd : Bool) (six : ℕ) (frames : List (List ℕ)) (m : ℕ) (l : Lasts six (length frames)) (s : longest (lengths frames) ≤ mostBytes) → filling-spelled sd six frames m l s .padding ≡ replicate (length (filling-spelled sd six frames m l s .padding)) 0
+pub filling-zeros : (sd : Bool) (six : ℕ) (frames : List (List ℕ)) (m : ℕ) (l : Lasts six (length frames)) (s : longest (lengths frames) ≤ mostBytes)
+    → filling-spelled sd six frames m l s .padding ≡ replicate (length (filling-spelled sd six frames m l s .padding)) 0
 unfolding filling-spelled
 filling-zeros sd six frames m l s =
     let z = either-zeros sd six frames (m - length (full sd six frames 0)) l s (ltb (length (compact sd six frames)) m) in

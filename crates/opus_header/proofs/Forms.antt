@@ -63,7 +63,8 @@ compact-bytes sd six ns m e =
     rw (compact-header sd six ns, header-bytes sd six ns m (compactForm (length ns)) e, sum)
 
 -- the bytes of the compact packet of frames with these lengths
-pub compact-size : (sd : Bool) (six : ℕ) (frames : List (List ℕ)) → length (compact sd six frames) ≡ length (compactHeader sd six (lengths frames)) + length (joined frames)
+pub compact-size : (sd : Bool) (six : ℕ) (frames : List (List ℕ))
+    → length (compact sd six frames) ≡ length (compactHeader sd six (lengths frames)) + length (joined frames)
 unfolding compact
 compact-size sd six frames = length-append (compactHeader sd six (lengths frames)) (joined frames)
 
@@ -107,12 +108,15 @@ module _ (sd : Bool) (six : ℕ) (frames : List (List ℕ)) where
       (λ e. rw (e, append-nil, length-append (fullHeader sd six ns 0) (joined frames), length-append (headerOf sd six ns Short) (joined frames), length-header sd (frontOf six (length ns) (same ns) Short) ns, length-header sd (frontOf six (length ns) (same ns) (Full 0)) ns) (omega arith))
       (λ e. rw (e, append-nil) (omega arith))
 
-  pub filling-formed : (m : ℕ) → filling sd six frames m ≡ formPacket sd six (lengths frames) (fillingForm (length (lengths frames)) (length (compact sd six frames)) m) (joined frames)
+  pub filling-formed : (m : ℕ)
+      → filling sd six frames m ≡ formPacket sd six (lengths frames) (fillingForm (length (lengths frames)) (length (compact sd six frames)) m) (joined frames)
   unfolding filling full formPacket
   filling-formed m =
       by-test (ltb (length (compact sd six frames)) m) (λ e. rw (e, full-compact)) (λ e. rw e compact-formed)
 
   -- the packet that is written, padded or not
-  pub packet-formed : (pad : Bool) (m : ℕ) → cond pad (filling sd six frames m) (compact sd six frames) ≡ formPacket sd six (lengths frames) (formFor (length (lengths frames)) (length (compact sd six frames)) m pad) (joined frames)
+  pub packet-formed : (pad : Bool) (m : ℕ)
+      → cond pad (filling sd six frames m) (compact sd six frames)
+      ≡ formPacket sd six (lengths frames) (formFor (length (lengths frames)) (length (compact sd six frames)) m pad) (joined frames)
   packet-formed true m = filling-formed m
   packet-formed false m = compact-formed

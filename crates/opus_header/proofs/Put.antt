@@ -110,10 +110,12 @@ module _ (six : ℕ) (ns : List ℕ) (form : Form) (m : Sums) (measured : m ≡ 
       fields-part : lengthFields (take (length ns - 1) ns) ≡ sizes ns
       fields-part = rw (← alike, s, firsts-take)
 
-      pub fields-room : (sd : Bool) → length (headerOf sd six ns form) ≤ length l → length d ≡ length l → at + length (lengthFields (take (length ns - 1) ns)) ≤ length d
+      pub fields-room : (sd : Bool) → length (headerOf sd six ns form) ≤ length l → length d ≡ length l
+          → at + length (lengthFields (take (length ns - 1) ns)) ≤ length d
       fields-room sd h k = rw fields-part (omega (arith, length-whole sd))
 
-      pub middle-differ : {d′ : List ℕ} {at′ : ℕ} → d′ ≡ sets d at (lengthFields (take (length ns - 1) ns)) → at′ ≡ at + length (lengthFields (take (length ns - 1) ns)) → Middle l six ns form m d′ at′
+      pub middle-differ : {d′ : List ℕ} {at′ : ℕ} → d′ ≡ sets d at (lengthFields (take (length ns - 1) ns))
+          → at′ ≡ at + length (lengthFields (take (length ns - 1) ns)) → Middle l six ns form m d′ at′
       middle-differ f g =
           record { bytes = rw (sets-append, zero-add, ← ed, ← ea, ← fields-part) f; place = rw (← fields-part, ← ea) g }
 
@@ -139,7 +141,8 @@ module _ {l : List ℕ} {six : ℕ} {ns : List ℕ} {form : Form} {m : Sums} {d 
         rw (← own) (omega (arith, length-whole six ns form m measured sd, middle-length)),
       )
 
-      pub put-own : {d′ : List ℕ} {at′ : ℕ} → d′ ≡ sets d at (lengthField (m .last)) → at′ ≡ at + length (lengthField (m .last)) → (d′ ≡ sets l 0 (headerOf sd six ns form)) × (at′ ≡ length (headerOf sd six ns form))
+      pub put-own : {d′ : List ℕ} {at′ : ℕ} → d′ ≡ sets d at (lengthField (m .last)) → at′ ≡ at + length (lengthField (m .last))
+          → (d′ ≡ sets l 0 (headerOf sd six ns form)) × (at′ ≡ length (headerOf sd six ns form))
       put-own f g =
           let all = front six ns form m measured ++ sizes ns in
           let field = lengthField (m .last) in (

@@ -34,7 +34,8 @@ abbrev code3 : Bool → ℕ → ℕ → ℕ → ℕ → List ℕ → List ℕ �
 code3 sd six v p count chain fields n = tocByte six 3 ∷ countByte v p count ∷ (chain ++ (fields ++ ownLength sd n))
 
 -- against code 3 with `fields`: a shorter code is shorter, and so is code 3 with fewer fields or without the chain
-module _ (sd : Bool) (six v count : ℕ) (fields : List ℕ) (n : ℕ) (ns : List ℕ) (ends : last ns ≡ n) {p : ℕ} {chain : List ℕ} {pad : ℕ} (k : Padding p chain pad) where
+module _ (sd : Bool) (six v count : ℕ) (fields : List ℕ) (n : ℕ) (ns : List ℕ) (ends : last ns ≡ n) {p : ℕ} {chain : List ℕ} {pad : ℕ}
+    (k : Padding p chain pad) where
   head : List ℕ
   head = code3 sd six v p count chain fields n
 
@@ -104,7 +105,8 @@ pub header-shortest : {sd : Bool} {six : ℕ} {head ns : List ℕ} {pad : ℕ} �
 header-shortest {sd} {six} {head} {ns} l =
     ⊎-elim (λ b. omega (arith, ap length (b .0))) (λ (h : length (compactHeader sd six ns) < length head). omega arith) (best l)
 
-pub shortest : {sd : Bool} {six : ℕ} {p : List ℕ} {frames : List (List ℕ)} → Spells sd six p frames → (p ≡ compact sd six frames) ⊎ (length (compact sd six frames) < length p)
+pub shortest : {sd : Bool} {six : ℕ} {p : List ℕ} {frames : List (List ℕ)} → Spells sd six p frames
+    → (p ≡ compact sd six frames) ⊎ (length (compact sd six frames) < length p)
 unfolding compact
 shortest {sd} {six} {p} {frames} w =
     ⊎-elim

@@ -25,7 +25,9 @@ module _ (ns : List ℕ) (i : ℕ) (h : i < length ns) where
   fields-within =
       let n = getD ns i 0 in
       let rest = drop (suc i) ns in
-      let whole : lengthFields ns ≡ lengthFields (take i ns) ++ (lengthField n ++ lengthFields rest) = ap lengthFields (split-at ns i 0 h) ∙ fields-append (take i ns) (n ∷ rest) in
+      let whole : lengthFields ns ≡ lengthFields (take i ns) ++ (lengthField n ++ lengthFields rest) =
+      ap lengthFields (split-at ns i 0 h)
+      ∙ fields-append (take i ns) (n ∷ rest) in
       omega (arith, simp length-append at (ap length whole))
 
 -- of ns the fields of the first i are written from `at` on, over l: d is what stands there now, and `next` is behind them

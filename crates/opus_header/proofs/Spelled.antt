@@ -20,10 +20,12 @@ use Rattle.opus_header.proofs.Chain.{chain-padding}
 
 -- code 3, with the lengths and their count as they are at hand
 module _ (sd : Bool) (six : ℕ) {p : ℕ} {chain : List ℕ} {pad : ℕ} (ns : List ℕ) (k : Padding p chain pad) where
-  equal-layout : (count n : ℕ) → replicate count n ≡ ns → Lasts six count → Layout sd six (tocByte six 3 ∷ countByte 0 p count ∷ (chain ++ ownLength sd n)) ns pad
+  equal-layout : (count n : ℕ) → replicate count n ≡ ns → Lasts six count
+      → Layout sd six (tocByte six 3 ∷ countByte 0 p count ∷ (chain ++ ownLength sd n)) ns pad
   equal-layout count n e l = rw (← e) (code3equal count n l k)
 
-  unequal-layout : (count : ℕ) (ms : List ℕ) (n : ℕ) → suc (length ms) ≡ count → ms ++ (n ∷ []) ≡ ns → Lasts six count → Layout sd six (tocByte six 3 ∷ countByte 1 p count ∷ (chain ++ (lengthFields ms ++ ownLength sd n))) ns pad
+  unequal-layout : (count : ℕ) (ms : List ℕ) (n : ℕ) → suc (length ms) ≡ count → ms ++ (n ∷ []) ≡ ns → Lasts six count
+      → Layout sd six (tocByte six 3 ∷ countByte 1 p count ∷ (chain ++ (lengthFields ms ++ ownLength sd n))) ns pad
   unequal-layout count ms n c e l = rw (← e, ← c) (code3unequal ms n (rw (← c) at l) k)
 
 pub full-layout : (sd : Bool) (six : ℕ) (ns : List ℕ) (n : ℕ) → Lasts six (length ns) → Layout sd six (fullHeader sd six ns n) ns (padBytes n)
@@ -46,7 +48,8 @@ compact-layout sd six (k ∷ m ∷ n ∷ ns) l = rw (le-ltb (length (k ∷ m ∷
 count-lengths : {six : ℕ} (frames : List (List ℕ)) → Lasts six (length frames) → Lasts six (length (lengths frames))
 count-lengths frames l = rw (length-map frames length) l
 
-pub compact-spelled : (sd : Bool) (six : ℕ) (frames : List (List ℕ)) → Lasts six (length frames) → longest (lengths frames) ≤ mostBytes → Spells sd six (compact sd six frames) frames
+pub compact-spelled : (sd : Bool) (six : ℕ) (frames : List (List ℕ)) → Lasts six (length frames) → longest (lengths frames) ≤ mostBytes
+    → Spells sd six (compact sd six frames) frames
 unfolding compact
 compact-spelled sd six frames l s =
     record {
@@ -58,11 +61,13 @@ compact-spelled sd six frames l s =
     }
 
 -- it has no padding bytes
-pub compact-unpadded : (sd : Bool) (six : ℕ) (frames : List (List ℕ)) (l : Lasts six (length frames)) (s : longest (lengths frames) ≤ mostBytes) → compact-spelled sd six frames l s .padding ≡ []
+pub compact-unpadded : (sd : Bool) (six : ℕ) (frames : List (List ℕ)) (l : Lasts six (length frames)) (s : longest (lengths frames) ≤ mostBytes)
+    → compact-spelled sd six frames l s .padding ≡ []
 unfolding compact-spelled
 compact-unpadded sd six frames l s = refl
 
-pub full-spelled : (sd : Bool) (six : ℕ) (frames : List (List ℕ)) (n : ℕ) → Lasts six (length frames) → longest (lengths frames) ≤ mostBytes → Spells sd six (full sd six frames n) frames
+pub full-spelled : (sd : Bool) (six : ℕ) (frames : List (List ℕ)) (n : ℕ) → Lasts six (length frames) → longest (lengths frames) ≤ mostBytes
+    → Spells sd six (full sd six frames n) frames
 unfolding full
 full-spelled sd six frames n l s =
     record {
@@ -74,6 +79,7 @@ full-spelled sd six frames n l s =
     }
 
 -- the padding bytes are zeros
-pub full-zeros : (sd : Bool) (six : ℕ) (frames : List (List ℕ)) (n : ℕ) (l : Lasts six (length frames)) (s : longest (lengths frames) ≤ mostBytes) → full-spelled sd six frames n l s .padding ≡ replicate (padBytes n) 0
+pub full-zeros : (sd : Bool) (six : ℕ) (frames : List (List ℕ)) (n : ℕ) (l : Lasts six (length frames)) (s : longest (lengths frames) ≤ mostBytes)
+    → full-spelled sd six frames n l s .padding ≡ replicate (padBytes n) 0
 unfolding full-spelled
 full-zeros sd six frames n l s = refl

@@ -45,21 +45,27 @@ module _ (sd : Bool) (six : ℕ) (ns s : List ℕ) (first : ℕ) (block : first 
         rw (compact-size sd six frames, lengths-are, joined-cut ns (drop first s), length-part s first (total ns) block, n)
         (sym (compact-bytes sd six ns m e))
 
-    written : (room : ℕ) (pad : Bool) (form : Form) → form ≡ formFor (length ns) need room pad → formPacket sd six ns form (part s first (total ns)) ≡ cond pad (filling sd six frames room) (compact sd six frames)
+    written : (room : ℕ) (pad : Bool) (form : Form) → form ≡ formFor (length ns) need room pad
+        → formPacket sd six ns form (part s first (total ns)) ≡ cond pad (filling sd six frames room) (compact sd six frames)
     written room pad form f =
         rw (f, ← compact-needs) (sym (rw (lengths-are, joined-cut ns (drop first s)) at (packet-formed sd six frames pad room)))
 
     -- the buffer after a rewrite
-    pub laid : (room : ℕ) (pad : Bool) (form : Form) → form ≡ formFor (length ns) need room pad → {s′ : List ℕ} → s′ ≡ sets s 0 (formPacket sd six ns form (part s first (total ns))) → s′ ≡ sets s 0 (cond pad (filling sd six frames room) (compact sd six frames))
+    pub laid : (room : ℕ) (pad : Bool) (form : Form) → form ≡ formFor (length ns) need room pad → {s′ : List ℕ}
+        → s′ ≡ sets s 0 (formPacket sd six ns form (part s first (total ns)))
+        → s′ ≡ sets s 0 (cond pad (filling sd six frames room) (compact sd six frames))
     laid room pad form f e = rw (written room pad form f) at e
 
     -- the padded packet fits where there is room
-    pub padded-room : (room : ℕ) (form : Form) → form ≡ formFor (length ns) need room true → need ≤ room → room ≤ length s → length (formPacket sd six ns form (part s first (total ns))) ≤ length s
+    pub padded-room : (room : ℕ) (form : Form) → form ≡ formFor (length ns) need room true → need ≤ room → room ≤ length s
+        → length (formPacket sd six ns form (part s first (total ns))) ≤ length s
     padded-room room form f h k =
         rw (written room true form f) (omega (arith, filling-length sd six frames room (omega (arith, compact-needs))))
 
   -- the compact packet, behind at least as long a header
-  pub compact-laid : (form : Form) → form ≡ compactForm (length ns) → length (compactHeader sd six ns) ≤ first → (formPacket sd six ns form (part s first (total ns)) ≡ compact sd six frames) × (length (formPacket sd six ns form (part s first (total ns))) ≤ length s)
+  pub compact-laid : (form : Form) → form ≡ compactForm (length ns) → length (compactHeader sd six ns) ≤ first
+      → (formPacket sd six ns form (part s first (total ns)) ≡ compact sd six frames)
+      × (length (formPacket sd six ns form (part s first (total ns))) ≤ length s)
   compact-laid form f short =
       let m = sumsOf ns in
       let need = compactBytes (length ns) m sd in

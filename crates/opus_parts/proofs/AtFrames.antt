@@ -63,7 +63,8 @@ module _ (s : List ℕ) (k : ℕ) (r : Rule) where
     module _ (h : sum ≤ length s - next) where
       means : (sd : Bool) → behindFields sd r (readFields k s) ≡ lastLength sd (all .ns) (drop next s)
       means sd =
-          let enough : ltb (length (drop next s)) (total (all .ns)) ≡ false = le-ltb (length (drop next s)) (total (all .ns)) (omega (arith, left, all .summed)) in
+          let enough : ltb (length (drop next s)) (total (all .ns)) ≡ false =
+          le-ltb (length (drop next s)) (total (all .ns)) (omega (arith, left, all .summed)) in
           rw (all .means, enough)
 
       pub rest-long : mostBytes < length s - next - sum → (l : List ℕ) → FramesRead s (behindFields false r (readFields k s)) (Broken R2) l
@@ -82,12 +83,14 @@ module _ (s : List ℕ) (k : ℕ) (r : Rule) where
       module _ (n first wide : ℕ) (g : Found s next n first) (q : wide ≡ n) where
         pub own-over : length s - first < sum + wide → (l : List ℕ) → FramesRead s (behindFields true r (readFields k s)) (Broken R8) l
         own-over m l =
-            let less : ltb (length (drop first s)) (total (all .ns) + n) ≡ true = lt-ltb (length (drop first s)) (total (all .ns) + n) (omega (arith, length-drop first s, all .summed)) in
+            let less : ltb (length (drop first s)) (total (all .ns) + n) ≡ true =
+            lt-ltb (length (drop first s)) (total (all .ns) + n) (omega (arith, length-drop first s, all .summed)) in
             rw (means true, g .means, less) (refl, tt)
 
         pub own-read : k < 48 → sum + wide ≤ length s - first → FramesRead s (behindFields true r (readFields k s)) (At first (sum + wide)) (set lengths k n)
         own-read b m =
-            let enough : ltb (length (drop first s)) (total (all .ns) + n) ≡ false = le-ltb (length (drop first s)) (total (all .ns) + n) (omega (arith, length-drop first s, all .summed)) in
+            let enough : ltb (length (drop first s)) (total (all .ns) + n) ≡ false =
+            le-ltb (length (drop first s)) (total (all .ns) + n) (omega (arith, length-drop first s, all .summed)) in
             rw (means true, g .means, enough) (unequal-at s (all .ns) lengths n k first _ (all .count) b (g .within) (all .filled) (omega (arith, all .summed)))
 
 -- ---- equal lengths
@@ -121,7 +124,8 @@ module _ (s : List ℕ) (count : ℕ) (r : Rule) where
     pub each-read : (lengths : List ℕ) → lengths ≡ padded48 (replicate count n) → count * wide ≤ length s - first
         → FramesRead s (equal true r count s) (At first (count * wide)) lengths
     each-read lengths f h =
-        let enough : ltb (length (drop first s)) (count * n) ≡ false = le-ltb (length (drop first s)) (count * n) (omega (arith, length-drop first s, product)) in
+        let enough : ltb (length (drop first s)) (count * n) ≡ false =
+        le-ltb (length (drop first s)) (count * n) (omega (arith, length-drop first s, product)) in
         rw (g .means, enough) (equal-at s lengths count n first (count * wide) f (g .within) product)
 
 -- ---- frames that were found lie within the slice, and are as many as asked for
@@ -131,14 +135,16 @@ Within m count (front ns t) = (length t ≤ m) × (total ns ≤ length t) × (le
 
 module _ (s : List ℕ) (count : ℕ) where
   -- a fact of what follows from a field at a place
-  from-field : (g : Field → Front) (at : ℕ) → Within (length s) count (g noField) → ((n : ℕ) (t : List ℕ) → length t ≤ length s → Within (length s) count (g (field n t))) → Within (length s) count (g (readField (drop at s)))
+  from-field : (g : Field → Front) (at : ℕ) → Within (length s) count (g noField)
+      → ((n : ℕ) (t : List ℕ) → length t ≤ length s → Within (length s) count (g (field n t))) → Within (length s) count (g (readField (drop at s)))
   from-field g at none one = go (read-at s at)
     where
       go : Read s at → Within (length s) count (g (readField (drop at s)))
       go (nothing r) = rw r none
       go (something n next l w r) = rw r (one n (drop next s) (omega (arith, length-drop next s)))
 
-  last-within : (sd : Bool) (ns : List ℕ) (at : ℕ) → length ns + 1 ≡ count → total ns ≤ length (drop at s) → Within (length s) count (lastLength sd ns (drop at s))
+  last-within : (sd : Bool) (ns : List ℕ) (at : ℕ) → length ns + 1 ≡ count → total ns ≤ length (drop at s)
+      → Within (length s) count (lastLength sd ns (drop at s))
   last-within false ns at c h =
       cond-elim (Within (length s) count) (ltb mostBytes (length (drop at s) - total ns)) _ _ (λ e. tt)
       (λ e. (omega (arith, length-drop at s), omega (arith, total-snoc ns (length (drop at s) - total ns)), omega (arith, length-append ns ((length (drop at s) - total ns) ∷ []))))

@@ -49,6 +49,7 @@ module _ (z : ℤ) (s : List ℕ) where
     unfolding encodeSize
     encode-full h k = rw (is-pos, le-ltb mostBytes n h, lt-ltb (length s) (length (lengthField n)) k) (refl, refl)
 
-    pub encode-put : n ≤ mostBytes → length (lengthField n) ≤ length s → (pos (length (lengthField n)) ≡ encodeSize z s .number) × (sets s 0 (lengthField n) ≡ encodeSize z s .bytes)
+    pub encode-put : n ≤ mostBytes → length (lengthField n) ≤ length s
+        → (pos (length (lengthField n)) ≡ encodeSize z s .number) × (sets s 0 (lengthField n) ≡ encodeSize z s .bytes)
     unfolding encodeSize
     encode-put h k = rw (is-pos, le-ltb mostBytes n h, le-ltb (length s) (length (lengthField n)) k) (refl, refl)

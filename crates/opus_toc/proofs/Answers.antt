@@ -39,7 +39,8 @@ unfolding samplesAt
 samples-none [] rate h z = absurd (h refl)
 samples-none (toc ∷ s) rate h z = rw (divisor-none rate z)
 
-pub samples-some : (s : List ℕ) (rate d n : ℕ) → getD s 0 0 < 256 → (length s ≡ 0 → ⊥) → d ≡ divisorOf rate → (d ≡ 0 → ⊥) → n ≡ samples 48000 (configuration (getD s 0 0)) → Number (n / d) ≡ samplesAt s rate
+pub samples-some : (s : List ℕ) (rate d n : ℕ) → getD s 0 0 < 256 → (length s ≡ 0 → ⊥) → d ≡ divisorOf rate → (d ≡ 0 → ⊥)
+    → n ≡ samples 48000 (configuration (getD s 0 0)) → Number (n / d) ≡ samplesAt s rate
 unfolding samplesAt
 samples-some [] rate d n b h e k m = absurd (h refl)
 samples-some (toc ∷ s) rate d n b h e k m =

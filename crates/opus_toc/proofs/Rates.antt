@@ -34,7 +34,8 @@ rate-at f t =
     let t₂ = both-right (f 8000) _ t in
     let t₃ = both-right (f 12000) _ t₂ in
     let t₄ = both-right (f 16000) _ t₃ in
-    each-rate (λ r. f r ≡ true) (both-left (f 8000) _ t) (both-left (f 12000) _ t₂) (both-left (f 16000) _ t₃) (both-left (f 24000) _ t₄) (both-right (f 24000) _ t₄)
+    each-rate (λ r. f r ≡ true) (both-left (f 8000) _ t) (both-left (f 12000) _ t₂) (both-left (f 16000) _ t₃) (both-left (f 24000) _ t₄)
+    (both-right (f 24000) _ t₄)
 
 pub no-rate : (r : ℕ) → (r ≡ 8000 → ⊥) → (r ≡ 12000 → ⊥) → (r ≡ 16000 → ⊥) → (r ≡ 24000 → ⊥) → (r ≡ 48000 → ⊥) → isRate r ≡ false
 no-rate r n8 n12 n16 n24 n48 =

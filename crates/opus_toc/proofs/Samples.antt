@@ -25,11 +25,13 @@ use Rattle.opus_toc.proofs.Rates.{each-rate, everyRate, rate-at}
 equal-below : (m : ℕ) (f g : ℕ → ℕ) → everyBelow m (λ k. eqb (f k) (g k)) ≡ true → (k : ℕ) → k < m → f k ≡ g k
 equal-below m f g t k h = eqb-true (f k) (g k) (every-at m (λ k. eqb (f k) (g k)) t k h)
 
-pub table-rule : (table : List ℕ) → everyBelow 256 (λ k. eqb (getD table k 0) (samples 48000 (configuration k))) ≡ true → (toc : ℕ) → toc < 256 → getD table toc 0 ≡ samples 48000 (configuration toc)
+pub table-rule : (table : List ℕ) → everyBelow 256 (λ k. eqb (getD table k 0) (samples 48000 (configuration k))) ≡ true → (toc : ℕ) → toc < 256
+    → getD table toc 0 ≡ samples 48000 (configuration toc)
 table-rule table = equal-below 256 (λ k. getD table k 0) (λ k. samples 48000 (configuration k))
 
 -- the same at each rate, by one test over all five
-at-rates : (m : ℕ) (f g : ℕ → ℕ → ℕ) → everyRate (λ r. everyBelow m (λ k. eqb (f r k) (g r k))) ≡ true → (rate : ℕ) → isRate rate ≡ true → (k : ℕ) → k < m → f rate k ≡ g rate k
+at-rates : (m : ℕ) (f g : ℕ → ℕ → ℕ) → everyRate (λ r. everyBelow m (λ k. eqb (f r k) (g r k))) ≡ true → (rate : ℕ) → isRate rate ≡ true → (k : ℕ) → k < m
+    → f rate k ≡ g rate k
 at-rates m f g t rate e = equal-below m (f rate) (g rate) (rate-at (λ r. everyBelow m (λ k. eqb (f r k) (g r k))) t rate e)
 
 pub formula-agrees : (rate : ℕ) → isRate rate ≡ true → (toc : ℕ) → toc < 256 → crateSamples rate toc ≡ samples rate (configuration toc)
@@ -61,7 +63,9 @@ lasts-at rate e count c h = go rate e
     P r = 10000 * (count * samples r c) ≡ r * (count * duration c) → leb (count * samples r c) (r * 3 / 25) ≡ leb (count * duration c) 1200
 
     at : (r : ℕ) → ((s d : ℕ) → 10000 * s ≡ r * d → s ≤ r * 3 / 25 → d ≤ 1200) → ((s d : ℕ) → 10000 * s ≡ r * d → d ≤ 1200 → s ≤ r * 3 / 25) → P r
-    at r f g x = same-limit (count * samples r c) (count * duration c) (r * 3 / 25) 1200 (f (count * samples r c) (count * duration c) x) (g (count * samples r c) (count * duration c) x)
+    at r f g x =
+        same-limit (count * samples r c) (count * duration c) (r * 3 / 25) 1200 (f (count * samples r c) (count * duration c) x)
+        (g (count * samples r c) (count * duration c) x)
 
     go : (r : ℕ) → isRate r ≡ true → leb (count * samples r c) (r * 3 / 25) ≡ leb (count * duration c) 1200
     go r t =

@@ -76,7 +76,8 @@ pub lengths-are : (s : List ℕ) (x y : ℤ) {n m : ℕ} {l : Lengths} → lengt
 unfolding lengthsOf
 lengths-are s x y a b e = rw (a, b) e
 
-pub lengths-told : (s : List ℕ) (x y : ℤ) → SFits w32 x → SFits w32 y → {l k : Lengths} → l ≡ lengthsOf s (toZ w32 (ofZ w32 x)) (toZ w32 (ofZ w32 y)) → l ≡ k → lengthsOf s x y ≡ k
+pub lengths-told : (s : List ℕ) (x y : ℤ) → SFits w32 x → SFits w32 y → {l k : Lengths} → l ≡ lengthsOf s (toZ w32 (ofZ w32 x)) (toZ w32 (ofZ w32 y))
+    → l ≡ k → lengthsOf s x y ≡ k
 lengths-told s x y f g e t = sym (rw (toZ-ofZ w32 x f, toZ-ofZ w32 y g) at e) ∙ t
 
 more-by : (a b n m : ℕ) → lengthsBy a b ≡ More n m → (a ≡ n) × (b ≡ m) × (1 ≤ a) × (a < b)

@@ -25,7 +25,8 @@ use Rattle.packet_pad.specs.Unpad.{unpadPacket, unpadded}
 use Rattle.packet_pad.proofs.Spelled.{read-whole, reads-back, filling-of, pad-spelled, unpad-spelled, unpad-written}
 
 -- a packet that the reader accepts, in the first len bytes of a buffer
-module _ (s : List ℕ) (bytes : Bytes s) (len : ℕ) (fits : len ≤ length s) (most : len ≤ 65535) (toc : ℕ) (ns : List ℕ) (first taken : ℕ) (r : read false (take len s) ≡ accepted toc ns first taken) where
+module _ (s : List ℕ) (bytes : Bytes s) (len : ℕ) (fits : len ≤ length s) (most : len ≤ 65535) (toc : ℕ) (ns : List ℕ) (first taken : ℕ)
+    (r : read false (take len s) ≡ accepted toc ns first taken) where
   abbrev six : ℕ
   six = upperSix toc
 
@@ -44,7 +45,8 @@ module _ (s : List ℕ) (bytes : Bytes s) (len : ℕ) (fits : len ≤ length s) 
   unpad-never-grows = (spelled-some (compact-of packet), omega (arith, never-longer packet, length-take-le len s fits))
 
   -- and reads back as the same frames with the same upper six TOC bits.
-  pub unpadded-reads-back : (framesOf (compact false six frames) (read false (compact false six frames)) ≡ frames) × (upperSix (getD (compact false six frames) 0 0) ≡ six)
+  pub unpadded-reads-back : (framesOf (compact false six frames) (read false (compact false six frames)) ≡ frames)
+      × (upperSix (getD (compact false six frames) 0 0) ≡ six)
   unpadded-reads-back = reads-back (compact-of packet)
 
   module _ (new : ℕ) (more : len < new) (room : new ≤ length s) (short : new ≤ 65535) where
@@ -56,7 +58,8 @@ module _ (s : List ℕ) (bytes : Bytes s) (len : ℕ) (fits : len ≤ length s) 
     padded-has-the-length = filling-length false six frames new (omega (arith, unpad-never-grows))
 
     -- and it reads back as the same frames with the same upper six TOC bits.
-    pub padded-reads-back : (framesOf (filling false six frames new) (read false (filling false six frames new)) ≡ frames) × (upperSix (getD (filling false six frames new) 0 0) ≡ six)
+    pub padded-reads-back : (framesOf (filling false six frames new) (read false (filling false six frames new)) ≡ frames)
+        × (upperSix (getD (filling false six frames new) 0 0) ≡ six)
     padded-reads-back = reads-back (filling-of packet new)
 
     -- 1. Padded and then unpadded, it is what unpadding alone gives: the same packet and the same length.

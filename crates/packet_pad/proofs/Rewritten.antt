@@ -18,13 +18,15 @@ use Rattle.opus_header.specs.declared.Form.{Form}
 use Rattle.opus_header.proofs.Forms.{header-bytes}
 
 -- three runs, laid one behind another, are one run
-runs : (s head block zeros : List ℕ) (at n : ℕ) → length head ≡ at → length block ≡ n → sets (sets (sets s at block) 0 head) (at + n) zeros ≡ sets s 0 (head ++ (block ++ zeros))
+runs : (s head block zeros : List ℕ) (at n : ℕ) → length head ≡ at → length block ≡ n
+    → sets (sets (sets s at block) 0 head) (at + n) zeros ≡ sets s 0 (head ++ (block ++ zeros))
 runs s head block zeros at n h k =
     let place : 0 + length (head ++ block) ≡ at + n = omega (arith, length-append head block) in
     rw (sets-before-sets s 0 head at block (omega arith), ← append-assoc head block zeros, sets-append s 0 (head ++ block) zeros, place)
 
 -- m counts the lengths ns of the frames that stand in s from place `first` on, and `at` is the header's length
-module _ (sd : Bool) (six : ℕ) (ns : List ℕ) (m : Sums) (form : Form) (s : List ℕ) (first at : ℕ) (e : m ≡ sumsOf ns) (block : first + total ns ≤ length s) (a : at ≡ headerBytes m form sd) where
+module _ (sd : Bool) (six : ℕ) (ns : List ℕ) (m : Sums) (form : Form) (s : List ℕ) (first at : ℕ) (e : m ≡ sumsOf ns) (block : first + total ns ≤ length s)
+    (a : at ≡ headerBytes m form sd) where
   abbrev packet : List ℕ
   packet = formPacket sd six ns form (part s first (total ns))
 
@@ -45,8 +47,11 @@ module _ (sd : Bool) (six : ℕ) (ns : List ℕ) (m : Sums) (form : Form) (s : L
   parts-fit room = (omega (arith, total-is), omega (arith, packet-length))
 
   -- the buffer after the move, the header and the zeros
-  pub rewritten : {s₁ s₂ s₃ : List ℕ} {zeros : ℕ} → s₁ ≡ moved s first at (m .total) → s₂ ≡ sets s₁ 0 (headerOf sd six ns form) → zeros ≡ padBytes (missing form) → s₃ ≡ filled s₂ (at + m .total) zeros 0 → (s₃ ≡ sets s 0 packet) × (at + m .total + zeros ≡ length packet)
+  pub rewritten : {s₁ s₂ s₃ : List ℕ} {zeros : ℕ} → s₁ ≡ moved s first at (m .total) → s₂ ≡ sets s₁ 0 (headerOf sd six ns form)
+      → zeros ≡ padBytes (missing form) → s₃ ≡ filled s₂ (at + m .total) zeros 0 → (s₃ ≡ sets s 0 packet) × (at + m .total + zeros ≡ length packet)
   unfolding formPacket
   rewritten e₁ e₂ z e₃ =
-      let three = runs s (headerOf sd six ns form) (part s first (total ns)) (replicate (padBytes (missing form)) 0) at (total ns) header-length (length-part s first (total ns) block) in
+      let three =
+      runs s (headerOf sd six ns form) (part s first (total ns)) (replicate (padBytes (missing form)) 0) at (total ns) header-length
+      (length-part s first (total ns) block) in
       (rw (e₃, e₂, e₁, z, total-is) three, rw (packet-length, z))

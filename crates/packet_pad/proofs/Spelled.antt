@@ -31,7 +31,8 @@ use Rattle.packet_pad.specs.Unpad.{unpadPacket, unpadded}
 use Rattle.packet_pad.proofs.Given.{length-own, lengths-own}
 use Rattle.packet_pad.proofs.Calls.{pad-more, unpad-some}
 
-pub read-whole : (p : List ℕ) (toc : ℕ) (ns : List ℕ) (first taken : ℕ) → Bytes p → read false p ≡ accepted toc ns first taken → Spells false (upperSix toc) p (cut ns (drop first p))
+pub read-whole : (p : List ℕ) (toc : ℕ) (ns : List ℕ) (first taken : ℕ) → Bytes p → read false p ≡ accepted toc ns first taken
+    → Spells false (upperSix toc) p (cut ns (drop first p))
 read-whole p toc ns first taken bytes r =
     let all : take taken p ≡ p = take-all taken p (omega (arith, ordinary-whole p toc ns first taken bytes r)) in
     rw all at (read-spelled false p toc ns first taken bytes r .packet)
@@ -77,7 +78,8 @@ module _ {six : ℕ} {frames : List (List ℕ)} (s : List ℕ) (len : ℕ) (fits
       pad-more s (pos len) (pos new) len new (lengths-own s len new some more room short) ∙ ap (leaves s) (pads w new)
 
 -- a packet q that was written into the buffer
-pub unpad-written : {six : ℕ} {q : List ℕ} {frames : List (List ℕ)} (s : List ℕ) (n : ℕ) → length q ≡ n → n ≤ length s → n ≤ 65535 → Spells false six q frames → unpadded (sets s 0 q) (pos n) ≡ writes (compact false six frames) (sets s 0 q)
+pub unpad-written : {six : ℕ} {q : List ℕ} {frames : List (List ℕ)} (s : List ℕ) (n : ℕ) → length q ≡ n → n ≤ length s → n ≤ 65535
+    → Spells false six q frames → unpadded (sets s 0 q) (pos n) ≡ writes (compact false six frames) (sets s 0 q)
 unpad-written {q = q} s n e fits most w =
     let back : take n (sets s 0 q) ≡ q = rw e at (take-sets s q (omega arith)) in
     unpad-spelled (sets s 0 q) n (omega (arith, length-sets s 0 q)) most (rw back w)

@@ -64,7 +64,8 @@ module _ (rp : OpusRepacketizer) (toc : ℕ) (ns : List ℕ) (s : sound rp ≡ t
       by-test (eqb (rp .«nb_frames») 0) (λ e. omega (arith, eqb-true (rp .«nb_frames») 0 e))
       (λ e. let z = eqb-false (rp .«nb_frames») 0 e in lasts-few (timed-lasts b (omega arith) (goes-timed rp toc (length ns) z s g)))
 
-  pub with-timed : toc < 256 → Lasts (upperSix toc) (length ns) → Timed (withFrames rp toc ns .toc) (withFrames rp toc ns .«nb_frames») (withFrames rp toc ns .framesize .0)
+  pub with-timed : toc < 256 → Lasts (upperSix toc) (length ns)
+      → Timed (withFrames rp toc ns .toc) (withFrames rp toc ns .«nb_frames») (withFrames rp toc ns .framesize .0)
   with-timed b l =
       by-test (eqb (rp .«nb_frames») 0)
       (λ e. let z : rp .«nb_frames» + length ns ≡ length ns = omega (arith, eqb-true (rp .«nb_frames») 0 e) in rw (e, z) (lasts-timed b refl l))
@@ -82,7 +83,8 @@ module _ (h : Head) (count : ℕ) (e : count ≡ h .«nb_frames») where
   refused-head c = rw e
 
   module _ (toc n : ℕ) where
-    pub more-first : count ≡ 0 → (each : Samples8k) → each .0 ≡ samples 8000 (configuration toc) → record { verdict = Accepted; toc = toc; framesize = each; count = n } ≡ moreFrames h toc n
+    pub more-first : count ≡ 0 → (each : Samples8k) → each .0 ≡ samples 8000 (configuration toc)
+        → record { verdict = Accepted; toc = toc; framesize = each; count = n } ≡ moreFrames h toc n
     more-first z each s = rw (eq-eqb (h .«nb_frames») 0 (sym e ∙ z), ← s, ← e, z, zero-add)
 
     pub more-later : (count ≡ 0 → ⊥) → record { verdict = Accepted; toc = h .toc; framesize = h .framesize; count = count + n } ≡ moreFrames h toc n
@@ -107,10 +109,14 @@ module _ (rp : OpusRepacketizer) (toc : ℕ) (ns p : List ℕ) (first : ℕ) (st
   block-added g = rw g
 
 -- as the code makes it, with the places that it found
-pub block-as : (h : Head) (len : List ℕ) (toc : ℕ) (ns p : List ℕ) (first : ℕ) (store : List ℕ) → goesWith (collectorOf h len) toc (length ns) ≡ true → (at n : ℕ) (r : AddedHead) (all left : List ℕ)
-    → at ≡ total (heldLengths (collectorOf h len)) → n ≡ total ns → r ≡ moreFrames h toc (length ns) → all ≡ sets len (h .«nb_frames») ns → left ≡ copied store at p first n
-    → h .«nb_frames» + length ns ≤ 48 → (addedOf r all ≡ addBlock (collectorOf h len) toc ns p first store .answer) × ((left ≡ addBlock (collectorOf h len) toc ns p first store .store) × (r .count < 65536))
-block-as h len toc ns p first store g at n r all left a b w l c f = rw (block-added (collectorOf h len) toc ns p first store g, ← a, ← b, w, l) (refl, (c, omega arith))
+pub block-as : (h : Head) (len : List ℕ) (toc : ℕ) (ns p : List ℕ) (first : ℕ) (store : List ℕ) → goesWith (collectorOf h len) toc (length ns) ≡ true
+    → (at n : ℕ) (r : AddedHead) (all left : List ℕ)
+    → at ≡ total (heldLengths (collectorOf h len)) → n ≡ total ns → r ≡ moreFrames h toc (length ns) → all ≡ sets len (h .«nb_frames») ns → left ≡ copied
+    store at p first n
+    → h .«nb_frames» + length ns ≤ 48 → (addedOf r all ≡ addBlock (collectorOf h len) toc ns p first store .answer) ×
+    ((left ≡ addBlock (collectorOf h len) toc ns p first store .store) × (r .count < 65536))
+block-as h len toc ns p first store g at n r all left a b w l c f =
+    rw (block-added (collectorOf h len) toc ns p first store g, ← a, ← b, w, l) (refl, (c, omega arith))
 
 module _ (sd : Bool) (rp : OpusRepacketizer) (p store : List ℕ) where
   pub add-unsound : sound rp ≡ false → added sd rp p store ≡ noAdd InvalidState rp store
@@ -133,24 +139,28 @@ module _ (sd : Bool) (rp : OpusRepacketizer) (p store : List ℕ) where
   unfolding addPacket
   add-refused rule h r = rw (le-ltb 65535 (length p) h, r)
 
-  pub add-read : (toc : ℕ) (ns : List ℕ) (first end : ℕ) → length p ≤ 65535 → read sd p ≡ accepted toc ns first end → addPacket sd rp p store ≡ addBlock rp toc ns p first store
+  pub add-read : (toc : ℕ) (ns : List ℕ) (first end : ℕ) → length p ≤ 65535 → read sd p ≡ accepted toc ns first end
+      → addPacket sd rp p store ≡ addBlock rp toc ns p first store
   unfolding addPacket
   add-read toc ns first end h r = rw (le-ltb 65535 (length p) h, r)
 
   -- an empty collector takes what the reader accepts
-  pub add-empty : (toc : ℕ) (ns : List ℕ) (first end : ℕ) → rp .«nb_frames» ≡ 0 → leastStore ≤ length store → length p ≤ 65535 → read sd p ≡ accepted toc ns first end → added sd rp p store ≡ taken rp toc ns p first store
+  pub add-empty : (toc : ℕ) (ns : List ℕ) (first end : ℕ) → rp .«nb_frames» ≡ 0 → leastStore ≤ length store → length p ≤ 65535
+      → read sd p ≡ accepted toc ns first end → added sd rp p store ≡ taken rp toc ns p first store
   add-empty toc ns first end e h k r =
       add-sound (none-sound rp e) h
       ∙ (add-read toc ns first end k r ∙ block-added rp toc ns p first store (sym (goes-none rp toc (length ns) e)))
 
 -- a refused add, as the code hands it back
-pub refused-as : {a : Adding} {e : Refusal} {h : Head} {len store : List ℕ} {r : AddedHead} → a ≡ noAdd e (collectorOf h len) store → (r ≡ refusedHead e h) × (r .count < 65536) → (addedOf r len ≡ a .answer) × ((store ≡ a .store) × (r .count < 65536))
+pub refused-as : {a : Adding} {e : Refusal} {h : Head} {len store : List ℕ} {r : AddedHead} → a ≡ noAdd e (collectorOf h len) store
+    → (r ≡ refusedHead e h) × (r .count < 65536) → (addedOf r len ≡ a .answer) × ((store ≡ a .store) × (r .count < 65536))
 refused-as p q = (rw (p, q .0), (rw p, q .1))
 
 -- ---- how an add ends
 pub data Ends (sd : Bool) (rp : OpusRepacketizer) (p store : List ℕ) : Adding → Type 0 where
   refuses : (e : Refusal) → Ends sd rp p store (noAdd e rp store)
-  takes : (toc : ℕ) (ns : List ℕ) (first end : ℕ) → read sd p ≡ accepted toc ns first end → goesWith rp toc (length ns) ≡ true → Ends sd rp p store (taken rp toc ns p first store)
+  takes : (toc : ℕ) (ns : List ℕ) (first end : ℕ) → read sd p ≡ accepted toc ns first end → goesWith rp toc (length ns) ≡ true
+      → Ends sd rp p store (taken rp toc ns p first store)
 
 pub ends : (sd : Bool) (rp : OpusRepacketizer) (p store : List ℕ) → Ends sd rp p store (added sd rp p store)
 unfolding added addPacket
@@ -170,6 +180,7 @@ ends sd rp p store =
         (λ g. rw (block-refused rp toc ns p first store g) (refuses InvalidPacket)))
 
 -- a refused add changes nothing
-pub refused-same : {sd : Bool} {rp : OpusRepacketizer} {p store : List ℕ} {a : Adding} {e : Refusal} → Ends sd rp p store a → a .answer .verdict ≡ Refused e → (a .answer .rp ≡ rp) × (a .store ≡ store)
+pub refused-same : {sd : Bool} {rp : OpusRepacketizer} {p store : List ℕ} {a : Adding} {e : Refusal} → Ends sd rp p store a → a .answer .verdict ≡ Refused e
+    → (a .answer .rp ≡ rp) × (a .store ≡ store)
 refused-same (refuses e) v = (refl, refl)
 refused-same (takes toc ns first end q g) v = never (cc)

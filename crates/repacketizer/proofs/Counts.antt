@@ -23,7 +23,8 @@ pub record Counted (ns : List ℕ) (most sum i : ℕ) : Type 0 where
 pub counted-none : (ns : List ℕ) → Counted ns 0 0 0
 counted-none ns = record { within = omega arith; most-is = refl; sum-is = refl }
 
-pub counted-more : (ns : List ℕ) (most sum i most′ sum′ : ℕ) → Counted ns most sum i → i < length ns → most′ ≡ max most (getD ns i 0) → sum′ ≡ (sum + getD ns i 0) % 65536 → Counted ns most′ sum′ (i + 1)
+pub counted-more : (ns : List ℕ) (most sum i most′ sum′ : ℕ) → Counted ns most sum i → i < length ns → most′ ≡ max most (getD ns i 0)
+    → sum′ ≡ (sum + getD ns i 0) % 65536 → Counted ns most′ sum′ (i + 1)
 counted-more ns most sum i most′ sum′ c h a b =
     record {
       within = omega arith;

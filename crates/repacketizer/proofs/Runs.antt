@@ -20,7 +20,8 @@ pub runs-ready : (sd : Bool) (s : State) (ps : List (List ℕ)) → Ready s → 
 runs-ready sd s [] r b = r
 runs-ready sd s (p ∷ ps) r b = runs-ready sd (afterAdd sd s p) ps (add-ready sd s p r (b .0)) (b .1)
 
-pub runs-held : (sd : Bool) (s : State) (ps : List (List ℕ)) → Ready s → AllBytes ps → held (afterAdds sd s ps .rp) (afterAdds sd s ps .store) ≡ held (s .rp) (s .store) ++ framesAccepted sd s ps
+pub runs-held : (sd : Bool) (s : State) (ps : List (List ℕ)) → Ready s → AllBytes ps
+    → held (afterAdds sd s ps .rp) (afterAdds sd s ps .store) ≡ held (s .rp) (s .store) ++ framesAccepted sd s ps
 runs-held sd s [] r b = sym (append-nil (held (s .rp) (s .store)))
 runs-held sd s (p ∷ ps) r b =
     let new = framesIf (added sd (s .rp) p (s .store) .answer .verdict) (framesOf p (read sd p)) in

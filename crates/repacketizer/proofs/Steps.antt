@@ -29,7 +29,8 @@ abbrev stateOf : Adding → State
 stateOf a = record { rp = a .answer .rp; store = a .store }
 
 -- ---- an accepted packet
-module _ (sd : Bool) (s : State) (p : List ℕ) (r : Ready s) (b : Bytes p) (toc : ℕ) (ns : List ℕ) (first end : ℕ) (q : read sd p ≡ accepted toc ns first end) (g : goesWith (s .rp) toc (length ns) ≡ true) where
+module _ (sd : Bool) (s : State) (p : List ℕ) (r : Ready s) (b : Bytes p) (toc : ℕ) (ns : List ℕ) (first end : ℕ)
+    (q : read sd p ≡ accepted toc ns first end) (g : goesWith (s .rp) toc (length ns) ≡ true) where
   read-facts : Facts (length p) toc ns first end
   read-facts = facts sd p toc ns first end b q
 
@@ -70,9 +71,12 @@ add-ready sd s p r b = go (ends sd (s .rp) p (s .store))
     go (refuses e) = r
     go (takes toc ns first end q g) = taken-ready sd s p r b toc ns first end q g
 
-pub add-held : (sd : Bool) (s : State) (p : List ℕ) → Ready s → Bytes p → held (afterAdd sd s p .rp) (afterAdd sd s p .store) ≡ held (s .rp) (s .store) ++ framesIf (added sd (s .rp) p (s .store) .answer .verdict) (framesOf p (read sd p))
+pub add-held : (sd : Bool) (s : State) (p : List ℕ) → Ready s → Bytes p
+    → held (afterAdd sd s p .rp) (afterAdd sd s p .store)
+    ≡ held (s .rp) (s .store) ++ framesIf (added sd (s .rp) p (s .store) .answer .verdict) (framesOf p (read sd p))
 add-held sd s p r b = go (ends sd (s .rp) p (s .store))
   where
-    go : {a : Adding} → Ends sd (s .rp) p (s .store) a → held (a .answer .rp) (a .store) ≡ held (s .rp) (s .store) ++ framesIf (a .answer .verdict) (framesOf p (read sd p))
+    go : {a : Adding} → Ends sd (s .rp) p (s .store) a
+        → held (a .answer .rp) (a .store) ≡ held (s .rp) (s .store) ++ framesIf (a .answer .verdict) (framesOf p (read sd p))
     go (refuses e) = sym (append-nil (held (s .rp) (s .store)))
     go (takes toc ns first end q g) = taken-held sd s p r b toc ns first end q g

@@ -69,7 +69,8 @@ pub record Holds (six : ℕ) (s : State) (done : List (List ℕ)) : Type 0 where
   pub same : 1 ≤ length done → upperSix (s .rp .toc) ≡ six
 
 -- one piece more
-module _ (sd : Bool) (six : ℕ) (k : six < 64) {s : State} {done : List (List ℕ)} (h : Holds six s done) (piece : List (List ℕ)) (some : 1 ≤ length piece) (l : Lasts six (length done + length piece)) (f : Fine piece) where
+module _ (sd : Bool) (six : ℕ) (k : six < 64) {s : State} {done : List (List ℕ)} (h : Holds six s done) (piece : List (List ℕ)) (some : 1 ≤ length piece)
+    (l : Lasts six (length done + length piece)) (f : Fine piece) where
   abbrev p : List ℕ
   p = compact sd six piece
 
@@ -103,7 +104,8 @@ module _ (sd : Bool) (six : ℕ) (k : six < 64) {s : State} {done : List (List �
       let z = eqb-false (s .rp .«nb_frames») 0 e in
       let six-is : upperSix (s .rp .toc) ≡ six = h .same (omega (arith, count)) in
       let all : Lasts (upperSix (s .rp .toc)) (s .rp .«nb_frames» + length ns) = rw (six-is, count, length-map piece length) l in
-      sym (goes-time (s .rp) toc (length ns) z (spelled-back spells .1 ∙ sym six-is)) ∙ lasts-timed (r .byte) (sound-full (s .rp) z (r .soundly) .timed .size) all .time)
+      sym (goes-time (s .rp) toc (length ns) z (spelled-back spells .1 ∙ sym six-is))
+      ∙ lasts-timed (r .byte) (sound-full (s .rp) z (r .soundly) .timed .size) all .time)
 
   accepted-is : added sd (s .rp) p (s .store) ≡ taken (s .rp) toc ns p (length (spells .head)) (s .store)
   accepted-is =
@@ -128,7 +130,9 @@ module _ (sd : Bool) (six : ℕ) (k : six < 64) {s : State} {done : List (List �
       }
 
 -- all pieces
-pub pieces-held : (sd : Bool) (six : ℕ) → six < 64 → {s : State} {done : List (List ℕ)} → Holds six s done → (pieces : List (List (List ℕ))) → Nonempty pieces → Lasts six (length done + length (together pieces)) → Fine (together pieces) → Holds six (afterAdds sd s (map (compact sd six) pieces)) (done ++ together pieces)
+pub pieces-held : (sd : Bool) (six : ℕ) → six < 64 → {s : State} {done : List (List ℕ)} → Holds six s done → (pieces : List (List (List ℕ)))
+    → Nonempty pieces → Lasts six (length done + length (together pieces)) → Fine (together pieces)
+    → Holds six (afterAdds sd s (map (compact sd six) pieces)) (done ++ together pieces)
 pieces-held sd six k {done = done} h [] n l f = rw (append-nil done) h
 pieces-held sd six k {done = done} h (piece ∷ pieces) n l f =
     let rest = together pieces in
@@ -159,8 +163,10 @@ module _ (s : State) (r : Ready s) where
   held-lasts h = rw (length-held (s .rp) (s .store) holds) (holds .lasts (omega (arith, length-held (s .rp) (s .store) holds)))
 
   -- added to an empty collector
-  pub cuts-held : (sd : Bool) → Bytes (s .store) → (pieces : List (List (List ℕ))) → Nonempty pieces → together pieces ≡ held (s .rp) (s .store) → 1 ≤ length pieces → (store : List ℕ) → leastStore ≤ length store
-      → Holds (upperSix (s .rp .toc)) (afterAdds sd (start store) (map (compact sd (upperSix (s .rp .toc))) pieces)) (held (s .rp) (s .store)) × (1 ≤ length (held (s .rp) (s .store)))
+  pub cuts-held : (sd : Bool) → Bytes (s .store) → (pieces : List (List (List ℕ))) → Nonempty pieces → together pieces ≡ held (s .rp) (s .store)
+      → 1 ≤ length pieces → (store : List ℕ) → leastStore ≤ length store
+      → Holds (upperSix (s .rp .toc)) (afterAdds sd (start store) (map (compact sd (upperSix (s .rp .toc))) pieces)) (held (s .rp) (s .store)) ×
+      (1 ≤ length (held (s .rp) (s .store)))
   cuts-held sd b pieces n e some store h =
       let all : 1 ≤ length (held (s .rp) (s .store)) = omega (arith, together-some pieces n some, ap length e) in
       let empty : Holds (upperSix (s .rp .toc)) (start store) [] = record { ready = empty-ready store h; frames = refl; same = λ m. absurd (omega arith) } in

@@ -57,12 +57,14 @@ module _ (sd pad : Bool) (rp : OpusRepacketizer) (store : List ℕ) (begin end :
       unfolding outRange
       out-long k = rw (s, le-ltb (length store) leastStore h, lt-ltb 65535 (length dst) k)
 
-      pub out-sound : length dst ≤ 65535 → outRange sd pad rp store begin end dst ≡ leaves dst (outFrames sd pad (upperSix (rp .toc)) (held rp store) begin end (length dst))
+      pub out-sound : length dst ≤ 65535
+          → outRange sd pad rp store begin end dst ≡ leaves dst (outFrames sd pad (upperSix (rp .toc)) (held rp store) begin end (length dst))
       unfolding outRange
       out-sound k = rw (s, le-ltb (length store) leastStore h, le-ltb 65535 (length dst) k)
 
   -- a call is passed the bits of the range's ends
-  pub out-passed : SFits w32 begin → SFits w32 end → outRange sd pad rp store begin end dst ≡ outRange sd pad rp store (toZ w32 (ofZ w32 begin)) (toZ w32 (ofZ w32 end)) dst
+  pub out-passed : SFits w32 begin → SFits w32 end
+      → outRange sd pad rp store begin end dst ≡ outRange sd pad rp store (toZ w32 (ofZ w32 begin)) (toZ w32 (ofZ w32 end)) dst
   out-passed f g = rw (toZ-ofZ w32 begin f, toZ-ofZ w32 end g)
 
 -- ---- the range
@@ -76,7 +78,8 @@ module _ (sd pad : Bool) (six : ℕ) (frames : List (List ℕ)) (dst : List ℕ)
   frames-under (pos b) (pos n) e = never (cc)
   frames-under (pos b) (negsuc n) e = refl
 
-  pub frames-natural : {begin end : ℤ} {b e : ℕ} → begin ≡ pos b → end ≡ pos e → leaves dst (outFrames sd pad six frames begin end (length dst)) ≡ leaves dst (outFrames sd pad six frames (pos b) (pos e) (length dst))
+  pub frames-natural : {begin end : ℤ} {b e : ℕ} → begin ≡ pos b → end ≡ pos e
+      → leaves dst (outFrames sd pad six frames begin end (length dst)) ≡ leaves dst (outFrames sd pad six frames (pos b) (pos e) (length dst))
   frames-natural p q = rw (p, q)
 
   module _ (b e : ℕ) where
@@ -87,21 +90,26 @@ module _ (sd pad : Bool) (six : ℕ) (frames : List (List ℕ)) (dst : List ℕ)
       pub frames-past : length frames < e → leaves dst (outFrames sd pad six frames (pos b) (pos e) (length dst)) ≡ refuses BadArg dst
       frames-past h = rw (lt-ltb b e some, lt-leb e (length frames) h)
 
-      pub frames-within : e ≤ length frames → leaves dst (outFrames sd pad six frames (pos b) (pos e) (length dst)) ≡ leaves dst (output sd pad six (range b e frames) (length dst))
+      pub frames-within : e ≤ length frames
+          → leaves dst (outFrames sd pad six frames (pos b) (pos e) (length dst)) ≡ leaves dst (output sd pad six (range b e frames) (length dst))
       frames-within h = rw (lt-ltb b e some, le-leb e (length frames) h)
 
 -- a range of the frames that a collector holds, by its array and the place where the range stands in the store
 module _ (sd pad : Bool) (rp : OpusRepacketizer) (store dst : List ℕ) (h : Holding rp) (b e : ℕ) where
-  pub held-past : b < e → rp .«nb_frames» < e → leaves dst (outFrames sd pad (upperSix (rp .toc)) (held rp store) (pos b) (pos e) (length dst)) ≡ refuses BadArg dst
+  pub held-past : b < e → rp .«nb_frames» < e
+      → leaves dst (outFrames sd pad (upperSix (rp .toc)) (held rp store) (pos b) (pos e) (length dst)) ≡ refuses BadArg dst
   held-past some k = frames-past sd pad (upperSix (rp .toc)) (held rp store) dst b e some (omega (arith, length-held rp store h))
 
-  pub held-within : b < e → e ≤ rp .«nb_frames» → {from : ℕ} → from ≡ total (take b (rp .len)) → leaves dst (outFrames sd pad (upperSix (rp .toc)) (held rp store) (pos b) (pos e) (length dst)) ≡ leaves dst (output sd pad (upperSix (rp .toc)) (cut (range b e (rp .len)) (drop from store)) (length dst))
+  pub held-within : b < e → e ≤ rp .«nb_frames» → {from : ℕ} → from ≡ total (take b (rp .len))
+      → leaves dst (outFrames sd pad (upperSix (rp .toc)) (held rp store) (pos b) (pos e) (length dst))
+      ≡ leaves dst (output sd pad (upperSix (rp .toc)) (cut (range b e (rp .len)) (drop from store)) (length dst))
   held-within some k f =
       frames-within sd pad (upperSix (rp .toc)) (held rp store) dst b e some (omega (arith, length-held rp store h))
       ∙ rw (part-of rp h b e some k .frames store, f)
 
 pub range-output : (sd pad : Bool) (s : State) → Ready s → (b e : ℕ) → b < e → e ≤ length (held (s .rp) (s .store)) → (dst : List ℕ) → length dst ≤ 65535
-    → outRange sd pad (s .rp) (s .store) (pos b) (pos e) dst ≡ leaves dst (output sd pad (upperSix (s .rp .toc)) (range b e (held (s .rp) (s .store))) (length dst))
+    → outRange sd pad (s .rp) (s .store) (pos b) (pos e) dst ≡ leaves dst
+    (output sd pad (upperSix (s .rp .toc)) (range b e (held (s .rp) (s .store))) (length dst))
 range-output sd pad s r b e some within dst most =
     out-sound sd pad (s .rp) (s .store) (pos b) (pos e) dst (r .soundly) (r .roomy) most
     ∙ frames-within sd pad (upperSix (s .rp .toc)) (held (s .rp) (s .store)) dst b e some within
@@ -116,12 +124,14 @@ module _ (sd pad : Bool) (six : ℕ) (frames : List (List ℕ)) (dst : List ℕ)
   unfolding output
   output-refused h = rw (lt-ltb (length dst) (length (compact sd six frames)) h)
 
-  pub output-written : length (compact sd six frames) ≤ length dst → leaves dst (output sd pad six frames (length dst)) ≡ writes (outPacket sd pad six frames (length dst)) dst
+  pub output-written : length (compact sd six frames) ≤ length dst
+      → leaves dst (output sd pad six frames (length dst)) ≡ writes (outPacket sd pad six frames (length dst)) dst
   unfolding output
   output-written h = rw (le-ltb (length dst) (length (compact sd six frames)) h)
 
   -- refused for room exactly where the destination is shorter than the compact packet
-  pub output-exactly : (leaves dst (output sd pad six frames (length dst)) .number ≡ negsuc 1 → length dst < length (compact sd six frames)) × (length dst < length (compact sd six frames) → leaves dst (output sd pad six frames (length dst)) .number ≡ negsuc 1)
+  pub output-exactly : (leaves dst (output sd pad six frames (length dst)) .number ≡ negsuc 1 → length dst < length (compact sd six frames))
+      × (length dst < length (compact sd six frames) → leaves dst (output sd pad six frames (length dst)) .number ≡ negsuc 1)
   output-exactly = (
     λ e. by-test (ltb (length dst) (length (compact sd six frames))) (ltb-true (length dst) (length (compact sd six frames)))
         (λ t. never (let w = output-written (ltb-false (length dst) (length (compact sd six frames)) t) in cc)),
@@ -129,7 +139,9 @@ module _ (sd pad : Bool) (six : ℕ) (frames : List (List ℕ)) (dst : List ℕ)
   )
 
 -- padded output fills the destination
-pub output-fills : (sd : Bool) (six : ℕ) (frames : List (List ℕ)) (dst : List ℕ) → length (compact sd six frames) ≤ length dst → (leaves dst (output sd true six frames (length dst)) .bytes ≡ filling sd six frames (length dst)) × (leaves dst (output sd true six frames (length dst)) .number ≡ pos (length dst))
+pub output-fills : (sd : Bool) (six : ℕ) (frames : List (List ℕ)) (dst : List ℕ) → length (compact sd six frames) ≤ length dst
+    → (leaves dst (output sd true six frames (length dst)) .bytes ≡ filling sd six frames (length dst))
+    × (leaves dst (output sd true six frames (length dst)) .number ≡ pos (length dst))
 output-fills sd six frames dst h =
     let long = filling-length sd six frames (length dst) h in
     rw (output-written sd true six frames dst h) (sets-whole dst (filling sd six frames (length dst)) long, ap pos long)

@@ -30,7 +30,8 @@ pub nothing-behind : (sd : Bool) → Behind sd []
 nothing-behind false = refl
 nothing-behind true = tt
 
-pub spelled-back : {sd : Bool} {six : ℕ} {p : List ℕ} {frames : List (List ℕ)} → Spells sd six p frames → (framesOf p (read sd p) ≡ frames) × (upperSix (getD p 0 0) ≡ six)
+pub spelled-back : {sd : Bool} {six : ℕ} {p : List ℕ} {frames : List (List ℕ)} → Spells sd six p frames
+    → (framesOf p (read sd p) ≡ frames) × (upperSix (getD p 0 0) ≡ six)
 spelled-back {sd} {p = p} w = (rw (append-nil p) at (spelled-frames w [] (nothing-behind sd)), spelled-six w)
 
 -- ---- bytes
@@ -66,13 +67,15 @@ layout-bytes {sd} (code3unequal ns n {chain = chain} l d) k h =
     (bytes-append chain (lengthFields ns ++ ownLength sd n) (chain-bytes d)
     (bytes-append (lengthFields ns) (ownLength sd n) (fields-bytes ns (omega arith)) (own-bytes sd n (omega arith)))))
 
-pub spelled-bytes : {sd : Bool} {six : ℕ} {p : List ℕ} {frames : List (List ℕ)} (w : Spells sd six p frames) → six < 64 → Bytes (joined frames) → Bytes (w .padding) → Bytes p
+pub spelled-bytes : {sd : Bool} {six : ℕ} {p : List ℕ} {frames : List (List ℕ)} (w : Spells sd six p frames) → six < 64 → Bytes (joined frames)
+    → Bytes (w .padding) → Bytes p
 spelled-bytes {frames = frames} w k b z =
     rw (w .bytes)
     (bytes-append (w .head) (joined frames ++ w .padding) (layout-bytes (w .layout) k (w .small)) (bytes-append (joined frames) (w .padding) b z))
 
 -- ---- how long
-pub compact-short : (sd : Bool) (six : ℕ) (frames : List (List ℕ)) → length frames ≤ 48 → longest (lengths frames) ≤ mostBytes → length (compact sd six frames) ≤ 65535
+pub compact-short : (sd : Bool) (six : ℕ) (frames : List (List ℕ)) → length frames ≤ 48 → longest (lengths frames) ≤ mostBytes
+    → length (compact sd six frames) ≤ 65535
 compact-short sd six frames h k =
     let ns = lengths frames in
     let m = sumsOf ns in

@@ -38,7 +38,8 @@ pub sums-total : {m : Sums} (ns : List ℕ) → m ≡ sumsOf ns → m .total ≡
 unfolding sumsOf
 sums-total ns e = ap (λ (x : Sums). x .total) e
 
-pub put-block : (l head store : List ℕ) (from : ℕ) {m : Sums} (ns : List ℕ) → m ≡ sumsOf ns → {d d′ : List ℕ} {at : ℕ} → d ≡ sets l 0 head → at ≡ length head → d′ ≡ copied d at store from (m .total)
+pub put-block : (l head store : List ℕ) (from : ℕ) {m : Sums} (ns : List ℕ) → m ≡ sumsOf ns → {d d′ : List ℕ} {at : ℕ} → d ≡ sets l 0 head
+    → at ≡ length head → d′ ≡ copied d at store from (m .total)
     → (d′ ≡ sets l 0 (head ++ part store from (total ns))) × (at + m .total ≡ length head + total ns)
 put-block l head store from {m} ns measured e a c =
     let sum = sums-total ns measured in
@@ -62,7 +63,8 @@ module _ (sd pad : Bool) (six : ℕ) (ns store : List ℕ) (from : ℕ) (dst : L
         let size : length (compact sd six frames) ≡ length (compactHeader sd six ns) + total ns = rw (compact-size sd six frames, lengths-are, bytes) in
         asks ∙ (compact-bytes sd six ns m measured ∙ sym size)
 
-    pub put-refused : length dst < need → (negsuc 1 ≡ leaves dst (output sd pad six frames (length dst)) .number) × (dst ≡ leaves dst (output sd pad six frames (length dst)) .bytes)
+    pub put-refused : length dst < need
+        → (negsuc 1 ≡ leaves dst (output sd pad six frames (length dst)) .number) × (dst ≡ leaves dst (output sd pad six frames (length dst)) .bytes)
     put-refused h = refused-as BufferTooSmall (output-refused sd pad six frames dst (omega (arith, need-is)))
 
     module _ (fits : need ≤ length dst) {form : Form} (chosen : form ≡ formFor (length ns) need (length dst) pad) where
@@ -98,7 +100,8 @@ module _ (sd pad : Bool) (six : ℕ) (ns store : List ℕ) (from : ℕ) (dst : L
 
       module _ {d : List ℕ} {end : ℕ} (put : d ≡ sets dst 0 (head ++ part store from (total ns))) (ends : end ≡ length head + total ns) where
         -- the compact packet has no zeros
-        pub put-plain : pad ≡ false → (pos end ≡ leaves dst (output sd pad six frames (length dst)) .number) × (d ≡ leaves dst (output sd pad six frames (length dst)) .bytes)
+        pub put-plain : pad ≡ false
+            → (pos end ≡ leaves dst (output sd pad six frames (length dst)) .number) × (d ≡ leaves dst (output sd pad six frames (length dst)) .bytes)
         put-plain p =
             let form-is = rw p at chosen in
             let none : padBytes (missing form) ≡ 0 = rw (form-is, compact-missing (length ns)) in
@@ -107,9 +110,13 @@ module _ (sd pad : Bool) (six : ℕ) (ns store : List ℕ) (from : ℕ) (dst : L
             rw (written, long, whole) (refl, put)
 
         -- the zeros reach the end of the destination
-        pub put-padded : pad ≡ true → {d′ : List ℕ} → d′ ≡ filled d end (length dst - end) 0 → (pos (length dst) ≡ leaves dst (output sd pad six frames (length dst)) .number) × (d′ ≡ leaves dst (output sd pad six frames (length dst)) .bytes)
+        pub put-padded : pad ≡ true → {d′ : List ℕ} → d′ ≡ filled d end (length dst - end) 0
+            → (pos (length dst) ≡ leaves dst (output sd pad six frames (length dst)) .number) × (d′ ≡ leaves dst (output sd pad six frames (length dst)) .bytes)
         put-padded p {d′} f =
-            let behind : end ≡ length (head ++ part store from (total ns)) = ends ∙ sym (simp length-append (omega (arith, length-part store from (total ns) block))) in
+            let behind : end ≡ length (head ++ part store from (total ns)) =
+            ends
+            ∙ sym (simp length-append (omega (arith, length-part store from (total ns) block))) in
             let rest : length dst - end ≡ padBytes (missing form) = omega (arith, fills p, length-packet) in
-            let whole : d′ ≡ sets dst 0 packet = rw (formed, ← rest) (f ∙ put-behind dst (head ++ part store from (total ns)) (replicate (length dst - end) 0) put behind) in
+            let whole : d′ ≡ sets dst 0 packet =
+            rw (formed, ← rest) (f ∙ put-behind dst (head ++ part store from (total ns)) (replicate (length dst - end) 0) put behind) in
             rw (written, fills p) (refl, whole)

@@ -17,7 +17,8 @@ use Rattle.show.proofs.Laid.{Three, front-room}
 use Rattle.show.proofs.Digits.{decimal-most}
 
 -- a call is passed the bits of the number
-pub refusal-parts : (l : List ℕ) (x : ℤ) → SFits w32 x → length (refusal x) ≤ length l → Three l 0 (refusal x) refusedLabel (integer (toZ w32 (ofZ w32 x))) (10 ∷ [])
+pub refusal-parts : (l : List ℕ) (x : ℤ) → SFits w32 x → length (refusal x) ≤ length l
+    → Three l 0 (refusal x) refusedLabel (integer (toZ w32 (ofZ w32 x))) (10 ∷ [])
 unfolding refusal
 refusal-parts l x f h = record { whole = rw (toZ-ofZ w32 x f); room = front-room l (refusal x) h }
 

@@ -29,8 +29,11 @@ returns-2 c =
     let read = l .before .before in
     let a = read .before .before .before .before .before .args in
     let end = a .n - 32 in
-    let last = held (replicate 32 0) (l .loop .s) (a .to + end) (a .s .now) (a .from + end) 32 (read .copy-bytes .ensures) (c .before .before .copy-bytes2 .ensures) (omega arith) (omega arith) in
-    copied-more (a .s .now) (a .to) (a .s .now) (a .from) (l .loop .i) end 32 (a .n) (l .loop .inv .1 .0) last (omega arith) (omega arith) (omega arith) (omega arith)
+    let last =
+    held (replicate 32 0) (l .loop .s) (a .to + end) (a .s .now) (a .from + end) 32 (read .copy-bytes .ensures) (c .before .before .copy-bytes2 .ensures)
+    (omega arith) (omega arith) in
+    copied-more (a .s .now) (a .to) (a .s .now) (a .from) (l .loop .i) end 32 (a .n) (l .loop .inv .1 .0) last (omega arith) (omega arith) (omega arith)
+    (omega arith)
 
 pub move-down-spec : {M : Type 1} → statement M
 move-down-spec =

@@ -13,8 +13,11 @@ returns c =
     let first = c .before .before .before .before .before .before .before in
     let read = first .before .before .before in
     let a = read .before .before .before .before .args in
-    let last = held (replicate 64 0) _ (a .to + (a .n - a .k)) (a .s .now) (a .from + (a .n - a .k)) (a .k) (read .copy-bytes .ensures) (c .before .before .copy-bytes2 .ensures) (omega arith) (omega arith) in
-    copied-more (a .s .now) (a .to) (a .s .now) (a .from) (a .k) (a .n - a .k) (a .k) (a .n) (first .move-piece .ensures) last (omega arith) (omega arith) (omega arith) (omega arith)
+    let last =
+    held (replicate 64 0) _ (a .to + (a .n - a .k)) (a .s .now) (a .from + (a .n - a .k)) (a .k) (read .copy-bytes .ensures)
+    (c .before .before .copy-bytes2 .ensures) (omega arith) (omega arith) in
+    copied-more (a .s .now) (a .to) (a .s .now) (a .from) (a .k) (a .n - a .k) (a .k) (a .n) (first .move-piece .ensures) last (omega arith) (omega arith)
+    (omega arith) (omega arith)
 
 pub move-ends-spec : {M : Type 1} → statement M
 move-ends-spec =

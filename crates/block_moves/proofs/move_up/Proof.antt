@@ -29,7 +29,8 @@ loop-again c =
     let a = l .before .before .before .before .before .before .before .args in (
       omega arith,
       (
-        moved-prev (a .s .now) (a .from + (i - 32)) (a .to + (i - 32)) (a .n - (i - 32)) (a .from + i) (a .to + i) (a .n - i) 32 (l .loop .inv .1 .0) (p .ensures) (omega arith) (omega arith) (omega arith) (omega arith) (omega arith),
+        moved-prev (a .s .now) (a .from + (i - 32)) (a .to + (i - 32)) (a .n - (i - 32)) (a .from + i) (a .to + i) (a .n - i) 32 (l .loop .inv .1 .0)
+            (p .ensures) (omega arith) (omega arith) (omega arith) (omega arith) (omega arith),
         omega (arith, p .kept .0),
       ),
     )
@@ -39,7 +40,9 @@ returns-2 c =
     let l = c .before .before .before .before .before .before in
     let read = l .before .before in
     let a = read .before .before .before .before .before .args in
-    let first = held (replicate 32 0) (l .loop .s) (a .to) (a .s .now) (a .from) 32 (read .copy-bytes .ensures) (c .before .before .copy-bytes2 .ensures) (omega arith) (omega arith) in
+    let first =
+    held (replicate 32 0) (l .loop .s) (a .to) (a .s .now) (a .from) 32 (read .copy-bytes .ensures) (c .before .before .copy-bytes2 .ensures) (omega arith)
+    (omega arith) in
     copied-less (a .s .now) (a .to) (a .s .now) (a .from) (l .loop .i) 32 (a .n) (l .loop .inv .1 .0) first (omega arith) (omega arith) (omega arith)
 
 pub move-up-spec : {M : Type 1} → statement M

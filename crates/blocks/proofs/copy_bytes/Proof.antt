@@ -51,4 +51,5 @@ returns c =
     cc
 
 pub copy-bytes-spec : {M : Type 1} → statement M
-copy-bytes-spec = tie.close (tie.spec Inv-loop μ-loop loop-holds add-dst shared-slice-read-dst add-dst-2 slice-write-dst add-i loop-less loop-again same-length returns)
+copy-bytes-spec =
+    tie.close (tie.spec Inv-loop μ-loop loop-holds add-dst shared-slice-read-dst add-dst-2 slice-write-dst add-i loop-less loop-again same-length returns)

@@ -28,7 +28,8 @@ returns-2 : tie.Need-returns-2 Inv-loop μ-loop
 returns-2 c =
     let l = c .before .before .before .before .before in
     let a = l .before .before .before .before .args in
-    copied-more (a .dst .now) (a .at) (a .src .now) (a .from) (l .loop .i) (a .n - 32) 32 (a .n) (l .loop .inv .1 .0) (c .before .before .copy-piece2 .ensures) (omega arith) (omega arith) (omega arith) (omega arith)
+    copied-more (a .dst .now) (a .at) (a .src .now) (a .from) (l .loop .i) (a .n - 32) 32 (a .n) (l .loop .inv .1 .0)
+    (c .before .before .copy-piece2 .ensures) (omega arith) (omega arith) (omega arith) (omega arith)
 
 pub copy-into-spec : {M : Type 1} → statement M
 copy-into-spec =

@@ -11,7 +11,8 @@ returns : tie.Need-returns
 returns c =
     let read = c .before .before .before .before .before .before in
     let a = read .before .before .before .before .args in
-    held (replicate 64 0) (a .dst .now) (a .at) (a .src .now) (a .from) (a .k) (read .copy-bytes .ensures) (c .before .before .copy-bytes2 .ensures) (omega arith) (omega arith)
+    held (replicate 64 0) (a .dst .now) (a .at) (a .src .now) (a .from) (a .k) (read .copy-bytes .ensures) (c .before .before .copy-bytes2 .ensures)
+    (omega arith) (omega arith)
 
 pub copy-piece-spec : {M : Type 1} → statement M
 copy-piece-spec = tie.close (tie.spec (λ c. omega arith) (λ c κs. omega arith) (λ c. omega arith) (λ c κs. omega arith) (λ c. omega arith) returns)

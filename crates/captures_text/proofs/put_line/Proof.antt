@@ -14,16 +14,21 @@ put-decimal-requires c κs =
     one-room (s .args .out .now) (s .args .at) (s .args .r) (s .pre)
 
 -- what stands behind each of the numbers
-one : (c : tie.After-put-decimal) → let a = c .before .before .before .before .args in Laid (a .out .now) (a .at) (decimal (a .r .line)) (c .put-decimal .last .0) (c .put-decimal .result)
+one : (c : tie.After-put-decimal)
+    → let a = c .before .before .before .before .args in Laid (a .out .now) (a .at) (decimal (a .r .line)) (c .put-decimal .last .0) (c .put-decimal .result)
 one c = record { bytes = c .put-decimal .ensures .0; place = c .put-decimal .ensures .1 }
 
-two : (c : tie.After-put-spaced) → let a = c .before .before .before .before .before .before .before .before .args in Laid (a .out .now) (a .at) (twoNumbers (a .r)) (c .put-spaced .last .0) (c .put-spaced .result)
+two : (c : tie.After-put-spaced)
+    → let a = c .before .before .before .before .before .before .before .before .args in
+    Laid (a .out .now) (a .at) (twoNumbers (a .r)) (c .put-spaced .last .0) (c .put-spaced .result)
 two c =
     let p = c .before .before .before .before in
     let a = p .before .before .before .before .args in
     laid-then (one p) (32 ∷ decimal (a .r .place)) (record { bytes = c .put-spaced .ensures .0; place = c .put-spaced .ensures .1 })
 
-three : (c : tie.After-put-spaced2) → let a = c .before .before .before .before .before .before .before .before .before .before .before .before .args in Laid (a .out .now) (a .at) (threeNumbers (a .r)) (c .put-spaced2 .last .0) (c .put-spaced2 .result)
+three : (c : tie.After-put-spaced2)
+    → let a = c .before .before .before .before .before .before .before .before .before .before .before .before .args in
+    Laid (a .out .now) (a .at) (threeNumbers (a .r)) (c .put-spaced2 .last .0) (c .put-spaced2 .result)
 three c =
     let q = c .before .before .before .before in
     let a = q .before .before .before .before .before .before .before .before .args in

@@ -14,7 +14,8 @@ put-text-requires c κs =
     let a = s .args in
     laid-first (a .out .now) (a .at) (32 ∷ []) (decimal (a .n)) (s .pre)
 
-space : (c : tie.After-put-text) → let a = c .before .before .before .before .args in Laid (a .out .now) (a .at) (32 ∷ []) (c .put-text .last .0) (c .put-text .result)
+space : (c : tie.After-put-text)
+    → let a = c .before .before .before .before .args in Laid (a .out .now) (a .at) (32 ∷ []) (c .put-text .last .0) (c .put-text .result)
 space c = record { bytes = c .put-text .ensures .0; place = c .put-text .ensures .1 }
 
 put-decimal-requires : tie.Need-put-decimal-requires

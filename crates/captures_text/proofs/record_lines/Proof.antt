@@ -43,19 +43,23 @@ put-line-requires : tie.Need-put-line-requires Inv-loop μ-loop
 put-line-requires c κs =
     let r = c .before .before .before .before .before .next-record in
     let s = c .before .before .before .before .before .before .before .before .before .before in
-    turn-room (c .before .before .before .before .before .before .before .loop .inv) (r .result) (r .ensures) (c .before .before .before .if1 .left) (s .pre) (omega arith) (omega arith)
+    turn-room (c .before .before .before .before .before .before .before .loop .inv) (r .result) (r .ensures) (c .before .before .before .if1 .left)
+    (s .pre) (omega arith) (omega arith)
 
 loop-less : tie.Need-loop-less Inv-loop μ-loop
 loop-less c =
     let r = c .before .before .before .before .before .before .before .before .next-record in
-    turn-less (c .before .before .before .before .before .before .before .before .before .before .loop .inv) (r .result) (r .ensures) (c .before .before .before .before .before .before .if1 .left)
+    turn-less (c .before .before .before .before .before .before .before .before .before .before .loop .inv) (r .result) (r .ensures)
+    (c .before .before .before .before .before .before .if1 .left)
 
 loop-again : tie.Need-loop-again Inv-loop μ-loop
 loop-again c =
     let p = c .before .before .put-line in
     let r = c .before .before .before .before .before .before .before .before .next-record in
     let s = c .before .before .before .before .before .before .before .before .before .before .before .before .before in
-    filled-more (c .before .before .before .before .before .before .before .before .before .before .loop .inv) (r .result) (r .ensures) (c .before .before .before .before .before .before .if1 .left) (s .pre) (omega arith) (omega arith) (record { bytes = p .ensures .0; place = p .ensures .1 })
+    filled-more (c .before .before .before .before .before .before .before .before .before .before .loop .inv) (r .result) (r .ensures)
+    (c .before .before .before .before .before .before .if1 .left) (s .pre) (omega arith) (omega arith)
+    (record { bytes = p .ensures .0; place = p .ensures .1 })
 
 same-length-2 : tie.Need-same-length-2 Inv-loop μ-loop
 same-length-2 c = filled-length (c .before .loop .inv)

@@ -38,7 +38,8 @@ reading : (c : tie.After-enum-told) → let r = c .before .before in Read (r .be
 reading c =
     let r = c .before .before in
     let k = r .before .before in
-    listing-read (k .before .args .«data» .now) (r .opus-packet-parse .result) (record { byte = λ i. k .shared-slice-known .given i .fits }) (r .opus-packet-parse .ensures) (c .enum-told .given .1)
+    listing-read (k .before .args .«data» .now) (r .opus-packet-parse .result) (record { byte = λ i. k .shared-slice-known .given i .fits })
+    (r .opus-packet-parse .ensures) (c .enum-told .given .1)
 
 array-share-prefix-lengths : tie.Need-array-share-prefix-lengths
 array-share-prefix-lengths c = reading (c .before .before) .inside

@@ -18,11 +18,16 @@ put-named-requires c κs =
     first-room (frame-parts (a .out .now) (a .at) (a .i) (a .place) (a .n) (s .pre))
 
 -- what stands behind the first call, and behind the second
-one : (c : tie.After-put-named) → let a = c .before .before .before .before .args in Laid (a .out .now) (a .at) (frameLabel ++ decimal (a .i)) (c .put-named .last .0) (c .put-named .result)
+one : (c : tie.After-put-named)
+    → let a = c .before .before .before .before .args in
+    Laid (a .out .now) (a .at) (frameLabel ++ decimal (a .i)) (c .put-named .last .0) (c .put-named .result)
 unfolding frameLabel
 one c = record { bytes = c .put-named .ensures .0; place = c .put-named .ensures .1 }
 
-two : (c : tie.After-put-named2) → let p = c .before .before .before .before .before in let a = p .before .before .before .before .args in Laid (p .put-named .last .0) (p .put-named .result) (atLabel ++ decimal (a .place)) (c .put-named2 .last .0) (c .put-named2 .result)
+two : (c : tie.After-put-named2)
+    → let p = c .before .before .before .before .before in
+    let a = p .before .before .before .before .args in
+    Laid (p .put-named .last .0) (p .put-named .result) (atLabel ++ decimal (a .place)) (c .put-named2 .last .0) (c .put-named2 .result)
 unfolding atLabel
 two c = record { bytes = c .put-named2 .ensures .0; place = c .put-named2 .ensures .1 }
 
@@ -51,7 +56,9 @@ returns c =
     let p = q .before .before .before .before .before in
     let s = p .before .before .before .before in
     let a = s .args in
-    laid-ends (three-laid (frame-parts (a .out .now) (a .at) (a .i) (a .place) (a .n) (s .pre)) (one p) (two q) (record { bytes = r .ensures .0; place = r .ensures .1 })) refl
+    laid-ends
+    (three-laid (frame-parts (a .out .now) (a .at) (a .i) (a .place) (a .n) (s .pre)) (one p) (two q) (record { bytes = r .ensures .0; place = r .ensures .1 }))
+    refl
 
 pub put-frame-spec : {M : Type 1} → statement M
 put-frame-spec =

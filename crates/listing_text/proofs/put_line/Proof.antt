@@ -15,7 +15,9 @@ put-named-requires c κs =
     laid-first (a .out .now) (a .at) (a .label .now ++ decimal (a .n)) (10 ∷ [])
     (laid-as (a .out .now) (a .at) (line-parts (a .label .now) (a .n)) (s .pre))
 
-named : (c : tie.After-put-named) → let a = c .before .before .before .before .args in Laid (a .out .now) (a .at) (a .label .now ++ decimal (a .n)) (c .put-named .last .0) (c .put-named .result)
+named : (c : tie.After-put-named)
+    → let a = c .before .before .before .before .args in
+    Laid (a .out .now) (a .at) (a .label .now ++ decimal (a .n)) (c .put-named .last .0) (c .put-named .result)
 named c = record { bytes = c .put-named .ensures .0; place = c .put-named .ensures .1 }
 
 put-text-requires : tie.Need-put-text-requires

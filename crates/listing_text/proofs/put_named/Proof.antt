@@ -13,7 +13,8 @@ put-text-requires c κs =
     let a = s .args in
     laid-first (a .out .now) (a .at) (a .label .now) (decimal (a .n)) (s .pre)
 
-label : (c : tie.After-put-text) → let a = c .before .before .before .before .args in Laid (a .out .now) (a .at) (a .label .now) (c .put-text .last .0) (c .put-text .result)
+label : (c : tie.After-put-text)
+    → let a = c .before .before .before .before .args in Laid (a .out .now) (a .at) (a .label .now) (c .put-text .last .0) (c .put-text .result)
 label c = record { bytes = c .put-text .ensures .0; place = c .put-text .ensures .1 }
 
 put-decimal-requires : tie.Need-put-decimal-requires

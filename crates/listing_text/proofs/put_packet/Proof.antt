@@ -16,12 +16,18 @@ put-times-requires c κs =
     (s .pre .0 .1, omega (arith, first-room (packet-parts (a .out .now) (a .toc) (a .ns .now) (a .first) (a .taken) (k .compact-length .ensures) (s .pre .1 .1))))
 
 -- what stands behind the first lines, and behind the next
-one : (c : tie.After-put-times) → let a = c .before .before .before .before .before .args in Laid (a .out .now) 0 (times (a .toc) (a .ns .now)) (c .put-times .last .0) (c .put-times .result)
+one : (c : tie.After-put-times)
+    → let a = c .before .before .before .before .before .args in
+    Laid (a .out .now) 0 (times (a .toc) (a .ns .now)) (c .put-times .last .0) (c .put-times .result)
 one c =
     let a = c .before .before .before .before .before .args in
     front-laid (a .out .now) (times (a .toc) (a .ns .now)) (c .put-times .ensures .0) (c .put-times .ensures .1)
 
-two : (c : tie.After-put-sizes) → let p = c .before .before .before .before in let k = p .before .before in let a = k .before .before .before .args in Laid (p .put-times .last .0) (p .put-times .result) (sizes (a .first) (a .taken) (k .compact-length .result)) (c .put-sizes .last .0) (c .put-sizes .result)
+two : (c : tie.After-put-sizes)
+    → let p = c .before .before .before .before in
+    let k = p .before .before in
+    let a = k .before .before .before .args in
+    Laid (p .put-times .last .0) (p .put-times .result) (sizes (a .first) (a .taken) (k .compact-length .result)) (c .put-sizes .last .0) (c .put-sizes .result)
 two c = record { bytes = c .put-sizes .ensures .0; place = c .put-sizes .ensures .1 }
 
 put-sizes-requires : tie.Need-put-sizes-requires

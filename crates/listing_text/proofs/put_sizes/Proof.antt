@@ -17,11 +17,15 @@ put-line-requires c κs =
     first-room (sizes-parts (a .out .now) (a .at) (a .first) (a .taken) (a .small) (s .pre))
 
 -- what stands behind the first call, and behind the second
-one : (c : tie.After-put-line) → let a = c .before .before .before .before .args in Laid (a .out .now) (a .at) (line payloadLabel (a .first)) (c .put-line .last .0) (c .put-line .result)
+one : (c : tie.After-put-line)
+    → let a = c .before .before .before .before .args in Laid (a .out .now) (a .at) (line payloadLabel (a .first)) (c .put-line .last .0) (c .put-line .result)
 unfolding payloadLabel
 one c = record { bytes = c .put-line .ensures .0; place = c .put-line .ensures .1 }
 
-two : (c : tie.After-put-line2) → let p = c .before .before .before .before .before in let a = p .before .before .before .before .args in Laid (p .put-line .last .0) (p .put-line .result) (line packetLabel (a .taken)) (c .put-line2 .last .0) (c .put-line2 .result)
+two : (c : tie.After-put-line2)
+    → let p = c .before .before .before .before .before in
+    let a = p .before .before .before .before .args in
+    Laid (p .put-line .last .0) (p .put-line .result) (line packetLabel (a .taken)) (c .put-line2 .last .0) (c .put-line2 .result)
 unfolding packetLabel
 two c = record { bytes = c .put-line2 .ensures .0; place = c .put-line2 .ensures .1 }
 

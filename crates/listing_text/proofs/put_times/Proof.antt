@@ -18,11 +18,16 @@ put-line-requires c κs =
     first-room (times-parts (a .out .now) (a .toc) (a .ns .now) (t .time-48k .ensures) (s .pre .1))
 
 -- what stands behind the first line, and behind the second
-one : (c : tie.After-put-line) → let a = c .before .before .before .before .before .before .args in Laid (a .out .now) 0 (line tocLabel (a .toc)) (c .put-line .last .0) (c .put-line .result)
+one : (c : tie.After-put-line)
+    → let a = c .before .before .before .before .before .before .args in
+    Laid (a .out .now) 0 (line tocLabel (a .toc)) (c .put-line .last .0) (c .put-line .result)
 unfolding tocLabel
 one c = record { bytes = c .put-line .ensures .0; place = c .put-line .ensures .1 }
 
-two : (c : tie.After-put-line2) → let p = c .before .before .before .before .before in let a = p .before .before .before .before .before .before .args in Laid (p .put-line .last .0) (p .put-line .result) (line countLabel (length (a .ns .now))) (c .put-line2 .last .0) (c .put-line2 .result)
+two : (c : tie.After-put-line2)
+    → let p = c .before .before .before .before .before in
+    let a = p .before .before .before .before .before .before .args in
+    Laid (p .put-line .last .0) (p .put-line .result) (line countLabel (length (a .ns .now))) (c .put-line2 .last .0) (c .put-line2 .result)
 unfolding countLabel
 two c = record { bytes = c .put-line2 .ensures .0; place = c .put-line2 .ensures .1 }
 

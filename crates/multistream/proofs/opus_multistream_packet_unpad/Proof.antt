@@ -14,7 +14,8 @@ returns c =
     let p = c .before .before .before in
     let s = p .before .before .before in
     let back : toZ w32 (ofZ w32 (c .number-of .result)) ≡ c .number-of .result = search needs in
-    meets (unpad-passed (s .args .«data» .now) (s .args .len) (s .args .nb-streams) (s .fits .len) (s .fits .nb-streams)) (back ∙ (c .number-of .ensures ∙ p .unpad-answer .ensures .0)) (p .unpad-answer .ensures .1)
+    meets (unpad-passed (s .args .«data» .now) (s .args .len) (s .args .nb-streams) (s .fits .len) (s .fits .nb-streams))
+    (back ∙ (c .number-of .ensures ∙ p .unpad-answer .ensures .0)) (p .unpad-answer .ensures .1)
 
 pub opus-multistream-packet-unpad-spec : {M : Type 1} → statement M
 opus-multistream-packet-unpad-spec =

@@ -21,7 +21,8 @@ returns-2 c =
     let i = p .before .before in
     let s = i .before .before in
     let a = s .args in
-    last-behind (a .«data» .now) (a .len) (a .new-len) (a .at) (omega (arith, s .pre)) (s .pre .0) (i .if1 .left) (p .pad-packet .ensures .0) (p .pad-packet .ensures .1)
+    last-behind (a .«data» .now) (a .len) (a .new-len) (a .at) (omega (arith, s .pre)) (s .pre .0) (i .if1 .left) (p .pad-packet .ensures .0)
+    (p .pad-packet .ensures .1)
 
 pub pad-last-spec : {M : Type 1} → statement M
 pad-last-spec =

@@ -21,7 +21,8 @@ inside c =
     let t = c .before .before .before in
     let k = t .before in
     let a = k .before .args in
-    pass-within (a .k) (a .«data» .now) _ (record { byte = λ j. k .shared-slice-known .given j .fits }) (sym (t .pass-streams .ensures) ∙ c .before .p .given .1)
+    pass-within (a .k) (a .«data» .now) _ (record { byte = λ j. k .shared-slice-known .given j .fits })
+    (sym (t .pass-streams .ensures) ∙ c .before .p .given .1)
 
 short : tie.Need-pass-stream-requires
 short c κs =

@@ -20,26 +20,31 @@ use Rattle.multistream.proofs.repack_stream.Tie as tie
 abbrev reads : tie.After-read-into → Packet
 reads c = packetWith (c .read-into .result) (c .read-into .last .1 .1 .0)
 
-answer : (c : tie.After-read-into) → let a = c .before .before .before .before .before .args in reads c ≡ parsed (a .self-delimited) (stream (a .«data» .now) (a .from) (a .len))
+answer : (c : tie.After-read-into)
+    → let a = c .before .before .before .before .before .args in reads c ≡ parsed (a .self-delimited) (stream (a .«data» .now) (a .from) (a .len))
 answer c =
     let s = c .before .before .before .before .before in
     let a = s .args in
-    lent-read (a .self-delimited) (a .«data» .now) (a .to) (a .from) (a .len) (s .pre .0) (s .pre .1) (c .read-into .result) (c .read-into .last .1 .1 .0) (c .read-into .ensures)
+    lent-read (a .self-delimited) (a .«data» .now) (a .to) (a .from) (a .len) (s .pre .0) (s .pre .1) (c .read-into .result) (c .read-into .last .1 .1 .0)
+    (c .read-into .ensures)
 
 -- how the stream's frames lie
-lies : (c : tie.After-read-into) → let a = c .before .before .before .before .before .args in Lies (a .self-delimited) (drop (a .from) (a .«data» .now)) (a .len - a .from) (reads c)
+lies : (c : tie.After-read-into)
+    → let a = c .before .before .before .before .before .args in Lies (a .self-delimited) (drop (a .from) (a .«data» .now)) (a .len - a .from) (reads c)
 lies c =
     let k = c .before .before .before .before in
     let s = k .before in
     let a = s .args in
-    lying (a .self-delimited) (a .«data» .now) (a .to) (a .from) (a .len) (s .pre .0) (s .pre .1) (record { byte = λ i. k .slice-known .given i .fits }) (reads c) (answer c)
+    lying (a .self-delimited) (a .«data» .now) (a .to) (a .from) (a .len) (s .pre .0) (s .pre .1) (record { byte = λ i. k .slice-known .given i .fits })
+    (reads c) (answer c)
 
 taken : (c : tie.After-read-into) → let a = c .before .before .before .before .before .args in a .from + c .read-into .result .taken ≤ a .len
 taken c =
     let k = c .before .before .before .before in
     let s = k .before in
     let a = s .args in
-    taken-fits (a .self-delimited) (a .«data» .now) (a .to) (a .from) (a .len) (s .pre .0) (s .pre .1) (record { byte = λ i. k .slice-known .given i .fits }) (reads c) (answer c)
+    taken-fits (a .self-delimited) (a .«data» .now) (a .to) (a .from) (a .len) (s .pre .0) (s .pre .1)
+    (record { byte = λ i. k .slice-known .given i .fits }) (reads c) (answer c)
 
 compact-frames-requires : tie.Need-compact-frames-requires
 compact-frames-requires c κs =
@@ -63,7 +68,8 @@ put c =
     let a = s .args in
     let bytes : Bytes (a .«data» .now) = record { byte = λ i. k .slice-known .given i .fits } in
     let f = c .compact-frames in
-    rewritten (a .self-delimited) (a .«data» .now) (a .to) (a .from) (a .len) (s .pre .0) (s .pre .1) bytes (reads p) (answer p) (f .ensures .0) (f .ensures .1) .2
+    rewritten (a .self-delimited) (a .«data» .now) (a .to) (a .from) (a .len) (s .pre .0) (s .pre .1) bytes (reads p) (answer p) (f .ensures .0)
+    (f .ensures .1) .2
 
 returns : tie.Need-returns
 returns c =
@@ -74,7 +80,9 @@ returns c =
     let a = s .args in
     let bytes : Bytes (a .«data» .now) = record { byte = λ i. k .slice-known .given i .fits } in
     let f = w .compact-frames in
-    let d = rewritten (a .self-delimited) (a .«data» .now) (a .to) (a .from) (a .len) (s .pre .0) (s .pre .1) bytes (reads p) (answer p) (f .ensures .0) (f .ensures .1) in
+    let d =
+    rewritten (a .self-delimited) (a .«data» .now) (a .to) (a .from) (a .len) (s .pre .0) (s .pre .1) bytes (reads p) (answer p) (f .ensures .0)
+    (f .ensures .1) in
     (d .0, d .1)
 
 pub repack-stream-spec : {M : Type 1} → statement M

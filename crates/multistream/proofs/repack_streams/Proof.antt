@@ -33,7 +33,8 @@ loop-again c =
     let k = i .before .before in
     let s = k .before in
     let a = s .args in
-    repacking-more (a .«data» .now) (a .len) (a .k) (s .pre .0) (s .pre .1) (s .pre .2) (l .«data») (l .to) (l .from) (l .i) (l .inv) (i .loop-test .taken) (record { byte = λ j. k .slice-known .given j .fits }) _ (r .repack-stream .ensures .0) (r .repack-stream .result) (r .repack-stream .ensures .1)
+    repacking-more (a .«data» .now) (a .len) (a .k) (s .pre .0) (s .pre .1) (s .pre .2) (l .«data») (l .to) (l .from) (l .i) (l .inv) (i .loop-test .taken)
+    (record { byte = λ j. k .slice-known .given j .fits }) _ (r .repack-stream .ensures .0) (r .repack-stream .result) (r .repack-stream .ensures .1)
 
 repack-stream-requires-2 : tie.Need-repack-stream-requires-2 Inv-loop μ-loop
 repack-stream-requires-2 c κs =
@@ -61,7 +62,8 @@ returns c =
     let k = i .before .before in
     let s = k .before in
     let a = s .args in
-    repacking-end (a .«data» .now) (a .len) (a .k) (s .pre .0) (s .pre .1) (s .pre .2) (l .«data») (l .to) (l .from) (l .i) (l .inv) (i .loop-test .left) (record { byte = λ j. k .slice-known .given j .fits }) _ (r .repack-stream2 .ensures .0) (r .repack-stream2 .result) (r .repack-stream2 .ensures .1)
+    repacking-end (a .«data» .now) (a .len) (a .k) (s .pre .0) (s .pre .1) (s .pre .2) (l .«data») (l .to) (l .from) (l .i) (l .inv) (i .loop-test .left)
+    (record { byte = λ j. k .slice-known .given j .fits }) _ (r .repack-stream2 .ensures .0) (r .repack-stream2 .result) (r .repack-stream2 .ensures .1)
 
 pub repack-streams-spec : {M : Type 1} → statement M
 repack-streams-spec =

@@ -26,7 +26,8 @@ room : (c : tie.After-known-told) → 2 + c .before .padding .given .0 .1 .0 + c
 room c =
     let b = c .before .before .before in
     let s = b .before .before .before .before in
-    body-room (s .args .self-delimited) (s .args .«data» .now) (s .args .count) (s .pre .0 .0) _ _ (sym (b .read-padding .ensures) ∙ c .before .padding .given .1)
+    body-room (s .args .self-delimited) (s .args .«data» .now) (s .args .count) (s .pre .0 .0) _ _
+    (sym (b .read-padding .ensures) ∙ c .before .padding .given .1)
 
 add-at : tie.Need-add-at
 add-at c = omega (arith, room c, c .before .before .before .before .before .before .before .pre .0)
@@ -45,7 +46,8 @@ packet-at-requires c κs =
     omega (
       arith,
       s .pre .0,
-      body-fits (s .args .self-delimited) (s .args .«data» .now) (s .args .count) (s .pre .0 .0) (k .before .padding .given .0 .0) (k .before .padding .given .0 .1 .0)
+      body-fits (s .args .self-delimited) (s .args .«data» .now) (s .args .count) (s .pre .0 .0) (k .before .padding .given .0 .0)
+          (k .before .padding .given .0 .1 .0)
           (sym (b .read-padding .ensures) ∙ k .before .padding .given .1) (s .pre .0 .2) (c .before .frames-3 .result) _ (c .before .frames-3 .ensures),
     )
 
@@ -55,7 +57,8 @@ returns-2 c =
     let b = k .before .before .before in
     let s = b .before .before .before .before in
     let f = c .before .before .frames-3 in
-    body-read (s .args .self-delimited) (s .args .«data» .now) (s .args .count) (s .pre .0 .0) (k .before .padding .given .0 .0) (k .before .padding .given .0 .1 .0)
+    body-read (s .args .self-delimited) (s .args .«data» .now) (s .args .count) (s .pre .0 .0) (k .before .padding .given .0 .0)
+    (k .before .padding .given .0 .1 .0)
     (sym (b .read-padding .ensures) ∙ k .before .padding .given .1) (s .pre .0 .2) (f .result) _ (f .ensures) (c .packet-at .result) (c .packet-at .ensures)
 
 pub read-body-spec : {M : Type 1} → statement M

@@ -31,21 +31,24 @@ returns c =
     let m = c .before .before .before in
     let s = m .before .before .before .before in
     let f = c .before .unequal-frames in
-    code-0 (s .args .self-delimited) (s .args .«data» .now) (s .pre .0 .0) 0 1 refl R2 (f .result) _ (f .ensures) (c .behind-toc .result) (c .behind-toc .ensures) (m .match .keys1) refl refl
+    code-0 (s .args .self-delimited) (s .args .«data» .now) (s .pre .0 .0) 0 1 refl R2 (f .result) _ (f .ensures) (c .behind-toc .result)
+    (c .behind-toc .ensures) (m .match .keys1) refl refl
 
 returns-2 : tie.Need-returns-2
 returns-2 c =
     let m = c .before .before .before in
     let s = m .before .before .before .before in
     let f = c .before .equal-frames in
-    code-1 (s .args .self-delimited) (s .args .«data» .now) (s .pre .0 .0) (f .result) _ (f .ensures) (c .behind-toc2 .result) (c .behind-toc2 .ensures) (m .match .keys2)
+    code-1 (s .args .self-delimited) (s .args .«data» .now) (s .pre .0 .0) (f .result) _ (f .ensures) (c .behind-toc2 .result) (c .behind-toc2 .ensures)
+    (m .match .keys2)
 
 returns-3 : tie.Need-returns-3
 returns-3 c =
     let m = c .before .before .before in
     let s = m .before .before .before .before in
     let f = c .before .unequal-frames2 in
-    code-2 (s .args .self-delimited) (s .args .«data» .now) (s .pre .0 .0) 1 2 refl R4 (f .result) _ (f .ensures) (c .behind-toc3 .result) (c .behind-toc3 .ensures) (m .match .keys3) refl refl
+    code-2 (s .args .self-delimited) (s .args .«data» .now) (s .pre .0 .0) 1 2 refl R4 (f .result) _ (f .ensures) (c .behind-toc3 .result)
+    (c .behind-toc3 .ensures) (m .match .keys3) refl refl
 
 returns-4 : tie.Need-returns-4
 returns-4 c =

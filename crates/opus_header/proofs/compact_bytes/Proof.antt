@@ -25,7 +25,8 @@ add-result c =
 returns : tie.Need-returns
 returns c =
     let a = c .before .before .before .args in
-    ap (λ (n : ℕ). n + a .m .total) (c .before .header-bytes .ensures ∙ ap (λ (f : Form). headerBytes (a .m) f (a .self-delimited)) (c .before .before .compact-form .ensures))
+    ap (λ (n : ℕ). n + a .m .total)
+    (c .before .header-bytes .ensures ∙ ap (λ (f : Form). headerBytes (a .m) f (a .self-delimited)) (c .before .before .compact-form .ensures))
 
 pub compact-bytes-spec : {M : Type 1} → statement M
 compact-bytes-spec = tie.close (tie.spec (λ c κs. search needs) header-bytes-requires add-result returns)

@@ -14,10 +14,13 @@ returns-2 c =
     rw (not-false (c .before .before .before .args .pad) (c .before .before .if1 .left), le-ltb _ _ (c .before .if2 .taken)) (c .compact-form2 .ensures)
 
 returns-3 : tie.Need-returns-3
-returns-3 c = rw (not-false (c .before .before .before .args .pad) (c .before .before .if1 .left), lt-ltb _ _ (c .before .if2 .left), lt-ltb _ _ (c .if3 .taken))
+returns-3 c =
+    rw (not-false (c .before .before .before .args .pad) (c .before .before .if1 .left), lt-ltb _ _ (c .before .if2 .left), lt-ltb _ _ (c .if3 .taken))
 
 returns-4 : tie.Need-returns-4
-returns-4 c = rw (not-false (c .before .before .before .args .pad) (c .before .before .if1 .left), lt-ltb _ _ (c .before .if2 .left), le-ltb _ _ (c .if3 .left), add-zero)
+returns-4 c =
+    rw
+    (not-false (c .before .before .before .args .pad) (c .before .before .if1 .left), lt-ltb _ _ (c .before .if2 .left), le-ltb _ _ (c .if3 .left), add-zero)
 
 pub form-for-spec : {M : Type 1} → statement M
 form-for-spec =

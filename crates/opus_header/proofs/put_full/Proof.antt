@@ -33,7 +33,8 @@ returns c =
     let b = c .before .before .before .before in
     let a = b .before .before .before .args in
     let p = c .before .before .put-chain in
-    put-full (a .«data» .now) (upperSix (a .toc)) (a .count) (a .same) (a .missing) (b .before .unequal-flag .ensures) (b .padding-flag .ensures) (p .ensures .0) (p .ensures .1)
+    put-full (a .«data» .now) (upperSix (a .toc)) (a .count) (a .same) (a .missing) (b .before .unequal-flag .ensures) (b .padding-flag .ensures)
+    (p .ensures .0) (p .ensures .1)
 
 pub put-full-spec : {M : Type 1} → statement M
 put-full-spec =

@@ -31,11 +31,14 @@ put-sizes-requires c κs =
     let p = c .before .before .before .before .before .put-front in
     let a = s .args in (
       omega (arith, longest-take (a .ns .now) (length (a .ns .now) - 1), s .pre .1 .0 .2),
-      fields-room (upperSix (a .toc)) (a .ns .now) (a .form) (a .m) (s .pre .0) (a .«data» .now) (p .ensures .0) (p .ensures .1) (not-true (a .m .same) (c .before .before .if1 .taken)) (a .self-delimited) (s .pre .1 .1) (p .kept .0),
+      fields-room (upperSix (a .toc)) (a .ns .now) (a .form) (a .m) (s .pre .0) (a .«data» .now) (p .ensures .0) (p .ensures .1)
+          (not-true (a .m .same) (c .before .before .if1 .taken)) (a .self-delimited) (s .pre .1 .1) (p .kept .0),
     )
 
 -- where the ways to the second `if` meet
-middle : (c : tie.Joined1) → let a = c .before .before .before .before .before .before .before .args in Middle (a .«data» .now) (upperSix (a .toc)) (a .ns .now) (a .form) (a .m) (c .if1 .«data») (c .if1 .at)
+middle : (c : tie.Joined1)
+    → let a = c .before .before .before .before .before .before .before .args in
+    Middle (a .«data» .now) (upperSix (a .toc)) (a .ns .now) (a .form) (a .m) (c .if1 .«data») (c .if1 .at)
 middle c =
     let s = c .before .before .before .before .before .before .before in
     let p = c .before .before .before .put-front in

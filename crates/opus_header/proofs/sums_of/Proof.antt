@@ -56,7 +56,8 @@ returns-2 : tie.Need-returns-2 Inv-loop μ-loop
 returns-2 c =
     let f = c .before .before .before in
     let l = f .before .before .before .loop in
-    counted-differ (l .inv) refl (omega arith) (omega arith) (c .before .before .wide3 .ensures .0) (c .wide5 .ensures .0) (f .field-bytes2 .ensures) (c .before .wide4 .ensures .0) (f .before .if2 .left)
+    counted-differ (l .inv) refl (omega arith) (omega arith) (c .before .before .wide3 .ensures .0) (c .wide5 .ensures .0) (f .field-bytes2 .ensures)
+    (c .before .wide4 .ensures .0) (f .before .if2 .left)
 
 pub sums-of-spec : {M : Type 1} → statement M
 sums-of-spec =

@@ -18,7 +18,9 @@ returns c =
     let b = c .before .before .before in
     let a = b .before .before .args in
     let back : toZ w32 (ofZ w32 (c .refusal-number .result)) ≡ c .refusal-number .result = search needs in
-    let law = encode-negative (a .size) (a .«data» .now) (counted (a .size) (b .before .before .fits .size) (b .count-of .ensures .0) (c .before .enum-told .given .1)) in
+    let law =
+    encode-negative (a .size) (a .«data» .now)
+    (counted (a .size) (b .before .before .fits .size) (b .count-of .ensures .0) (c .before .enum-told .given .1)) in
     (back ∙ (c .refusal-number .ensures ∙ law .0), law .1)
 
 returns-2 : tie.Need-returns-2
@@ -26,7 +28,9 @@ returns-2 c =
     let b = c .before .before .before in
     let a = b .before .before .before .before .args in
     let back : toZ w32 (ofZ w32 (c .refusal-number2 .result)) ≡ c .refusal-number2 .result = search needs in
-    let law = encode-long (a .size) (a .«data» .now) _ (counted (a .size) (b .before .before .before .before .fits .size) (b .before .before .count-of .ensures .0) (b .n .given .1)) (c .before .if1 .taken) in
+    let law =
+    encode-long (a .size) (a .«data» .now) _
+    (counted (a .size) (b .before .before .before .before .fits .size) (b .before .before .count-of .ensures .0) (b .n .given .1)) (c .before .if1 .taken) in
     (back ∙ (c .refusal-number2 .ensures ∙ law .0), law .1)
 
 returns-3 : tie.Need-returns-3
@@ -34,7 +38,10 @@ returns-3 c =
     let b = c .before .before .before .before .before in
     let a = b .before .before .before .before .args in
     let back : toZ w32 (ofZ w32 (c .refusal-number3 .result)) ≡ c .refusal-number3 .result = search needs in
-    let law = encode-full (a .size) (a .«data» .now) _ (counted (a .size) (b .before .before .before .before .fits .size) (b .before .before .count-of .ensures .0) (b .n .given .1)) (c .before .before .before .if1 .left) (omega (arith, c .before .before .size-bytes .ensures)) in
+    let law =
+    encode-full (a .size) (a .«data» .now) _
+    (counted (a .size) (b .before .before .before .before .fits .size) (b .before .before .count-of .ensures .0) (b .n .given .1))
+    (c .before .before .before .if1 .left) (omega (arith, c .before .before .size-bytes .ensures)) in
     (back ∙ (c .refusal-number3 .ensures ∙ law .0), law .1)
 
 cast-t14 : tie.Need-cast-t14
@@ -47,7 +54,10 @@ returns-4 c =
     let a = b .before .before .before .before .args in
     let n = b .n .given .0 .0 in
     let back : toZ w32 (ofZ w32 (c .number-of .result)) ≡ c .number-of .result = search needs in
-    let law = encode-put (a .size) (a .«data» .now) n (counted (a .size) (b .before .before .before .before .fits .size) (b .before .before .count-of .ensures .0) (b .n .given .1)) (p .before .before .before .before .if1 .left) (omega (arith, p .before .before .before .size-bytes .ensures)) in
+    let law =
+    encode-put (a .size) (a .«data» .now) n
+    (counted (a .size) (b .before .before .before .before .fits .size) (b .before .before .count-of .ensures .0) (b .n .given .1))
+    (p .before .before .before .before .if1 .left) (omega (arith, p .before .before .before .size-bytes .ensures)) in
     (back ∙ (c .number-of .ensures ∙ (ap pos (p .put-size .ensures .1 ∙ zero-add _) ∙ law .0)), p .put-size .ensures .0 ∙ law .1)
 
 pub encode-size-spec : {M : Type 1} → statement M

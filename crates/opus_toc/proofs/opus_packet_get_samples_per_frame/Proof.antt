@@ -27,7 +27,8 @@ returns-2 c =
     back
     ∙ (c .number-of .ensures
     ∙ (ap numberOf (c .before .samples-per-frame .ensures)
-    ∙ rate-natural _ (a .rate) _ (counted (a .rate) (b .before .before .before .before .fits .rate) (b .before .before .count-of .ensures .0) (b .hz .given .1))))
+    ∙ rate-natural _ (a .rate) _
+    (counted (a .rate) (b .before .before .before .before .fits .rate) (b .before .before .count-of .ensures .0) (b .hz .given .1))))
 
 pub opus-packet-get-samples-per-frame-spec : {M : Type 1} → statement M
 opus-packet-get-samples-per-frame-spec =

@@ -45,7 +45,8 @@ module _ (c : ℕ) where
   others : (OneOf ms2½ c → ⊥) → (OneOf ms5 c → ⊥) → (OneOf ms10 c → ⊥) → (OneOf ms40 c → ⊥) → (OneOf ms60 c → ⊥) → c < 32 → Has 960 c
   unfolding samples duration
   others a b d e f h =
-      let t = every-at 32 (λ k. hasKey ms2½ k || (hasKey ms5 k || (hasKey ms10 k || (hasKey ms40 k || (hasKey ms60 k || eqb 960 (samples 48000 k)))))) refl c h in
+      let t =
+      every-at 32 (λ k. hasKey ms2½ k || (hasKey ms5 k || (hasKey ms10 k || (hasKey ms40 k || (hasKey ms60 k || eqb 960 (samples 48000 k)))))) refl c h in
       eqb-true 960 (samples 48000 c) (rw (no-key ms2½ c a, no-key ms5 c b, no-key ms10 c d, no-key ms40 c e, no-key ms60 c f) at t)
 
 returns : tie.Need-returns

@@ -12,7 +12,8 @@ returns-2 c = samples-none _ _ (c .before .before .if1 .left) (sym (c .before .d
 returns-3 : tie.Need-returns-3
 returns-3 c =
     let d = c .before .before .before in
-    samples-some (d .before .before .before .before .args .«data» .now) _ _ _ (c .before .before .shared-slice-known2 .given 0 .fits) (d .before .before .if1 .left) (d .before .divisor .ensures) (d .if2 .left) (c .before .samples-in-table .ensures)
+    samples-some (d .before .before .before .before .args .«data» .now) _ _ _ (c .before .before .shared-slice-known2 .given 0 .fits)
+    (d .before .before .if1 .left) (d .before .divisor .ensures) (d .if2 .left) (c .before .samples-in-table .ensures)
 
 pub samples-per-frame-spec : {M : Type 1} → statement M
 samples-per-frame-spec =

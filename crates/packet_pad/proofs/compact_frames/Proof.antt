@@ -15,7 +15,8 @@ rewrite-requires c κs =
     let m = c .before .before .sums-of in
     let s = c .before .before .before .before .before in
     let a = s .args in
-    let is = compact-laid (a .self-delimited) (upperSix (a .toc)) (a .ns .now) (a .«data» .now) (a .first) (s .pre .1 .0) (f .result) (f .ensures) (s .pre .1 .1) in
+    let is =
+    compact-laid (a .self-delimited) (upperSix (a .toc)) (a .ns .now) (a .«data» .now) (a .first) (s .pre .1 .0) (f .result) (f .ensures) (s .pre .1 .1) in
     (m .ensures, (s .pre .0, (rw (f .ensures) (omega (arith, compact-missing (length (a .ns .now)))), (s .pre .1 .0, is .1))))
 
 returns : tie.Need-returns
@@ -24,7 +25,8 @@ returns c =
     let f = c .before .before .before .before .compact-form in
     let s = c .before .before .before .before .before .before .before .before in
     let a = s .args in
-    let is = compact-laid (a .self-delimited) (upperSix (a .toc)) (a .ns .now) (a .«data» .now) (a .first) (s .pre .1 .0) (f .result) (f .ensures) (s .pre .1 .1) in
+    let is =
+    compact-laid (a .self-delimited) (upperSix (a .toc)) (a .ns .now) (a .«data» .now) (a .first) (s .pre .1 .0) (f .result) (f .ensures) (s .pre .1 .1) in
     (rw (is .0) at (r .ensures .0), rw (is .0) at (r .ensures .1))
 
 pub compact-frames-spec : {M : Type 1} → statement M

@@ -10,7 +10,8 @@ use Rattle.packet_pad.proofs.Calls.{pad-bad, pad-same, pad-more}
 use Rattle.packet_pad.proofs.pad_answer.Statement.{statement}
 use Rattle.packet_pad.proofs.pad_answer.Tie as tie
 
-told : {k : Lengths} (c : tie.After-lengths-of) → let a = c .before .before .before .args in c .lengths-of .result ≡ k → lengthsOf (a .«data» .now) (a .len) (a .new-len) ≡ k
+told : {k : Lengths} (c : tie.After-lengths-of) → let a = c .before .before .before .args in c .lengths-of .result ≡ k
+    → lengthsOf (a .«data» .now) (a .len) (a .new-len) ≡ k
 told c e =
     let s = c .before .before .before in
     let a = s .args in

@@ -33,10 +33,12 @@ rewrite-requires c κs =
       (
         s .pre .0,
         (
-          omega (arith, few-missing (length (a .ns .now)) (n .compact-bytes .result) (a .new-len) true (f .form-for .result) (f .form-for .ensures), s .pre .1 .1 .2),
+          omega
+              (arith, few-missing (length (a .ns .now)) (n .compact-bytes .result) (a .new-len) true (f .form-for .result) (f .form-for .ensures), s .pre .1 .1 .2),
           (
             s .pre .1 .0,
-            padded-room false (upperSix (a .toc)) (a .ns .now) (a .«data» .now) (a .first) (s .pre .1 .0) (m .sums-of .result) (m .sums-of .ensures) (n .compact-bytes .result) (n .compact-bytes .ensures) (a .new-len) (f .form-for .result) (f .form-for .ensures) (need n) (s .pre .1 .1 .1),
+            padded-room false (upperSix (a .toc)) (a .ns .now) (a .«data» .now) (a .first) (s .pre .1 .0) (m .sums-of .result) (m .sums-of .ensures)
+                (n .compact-bytes .result) (n .compact-bytes .ensures) (a .new-len) (f .form-for .result) (f .form-for .ensures) (need n) (s .pre .1 .1 .1),
           ),
         ),
       ),
@@ -50,7 +52,8 @@ returns c =
     let m = n .before in
     let s = m .before .before .before in
     let a = s .args in
-    laid false (upperSix (a .toc)) (a .ns .now) (a .«data» .now) (a .first) (s .pre .1 .0) (m .sums-of .result) (m .sums-of .ensures) (n .compact-bytes .result) (n .compact-bytes .ensures) (a .new-len) true (f .form-for .result) (f .form-for .ensures) (r .rewrite .ensures .0)
+    laid false (upperSix (a .toc)) (a .ns .now) (a .«data» .now) (a .first) (s .pre .1 .0) (m .sums-of .result) (m .sums-of .ensures)
+    (n .compact-bytes .result) (n .compact-bytes .ensures) (a .new-len) true (f .form-for .result) (f .form-for .ensures) (r .rewrite .ensures .0)
 
 pub pad-frames-spec : {M : Type 1} → statement M
 pad-frames-spec =

@@ -27,7 +27,8 @@ lying c =
     let p = c .before .before in
     let k = p .before .before .before in
     let a = k .before .args in
-    lies false (a .«data» .now) (a .len) (read c) (record { byte = λ i. k .slice-known .given i .fits }) (omega (arith, k .before .pre)) (lent-accepted false _ _ _ (p .read-into .ensures) (c .enum-told .given .1)) (c .enum-told .given .1)
+    lies false (a .«data» .now) (a .len) (read c) (record { byte = λ i. k .slice-known .given i .fits }) (omega (arith, k .before .pre))
+    (lent-accepted false _ _ _ (p .read-into .ensures) (c .enum-told .given .1)) (c .enum-told .given .1)
 
 array-share-prefix-lengths : tie.Need-array-share-prefix-lengths
 array-share-prefix-lengths c = lying (c .before) .inside

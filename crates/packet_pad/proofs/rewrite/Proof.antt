@@ -18,11 +18,14 @@ header-bytes-requires c κs =
     (sums-few (s .args .ns .now) (s .args .m) (s .pre .0) (s .pre .1 .0 .1) (s .pre .1 .0 .2) .0, s .pre .1 .1 .0)
 
 -- the block where it stands, and each part of the packet, are within the buffer
-fit : (c : tie.After-header-bytes) → let a = c .before .before .before .args in (a .first + a .m .total ≤ length (a .«data» .now)) × (c .header-bytes .result + a .m .total + padBytes (missing (a .form)) ≤ length (a .«data» .now))
+fit : (c : tie.After-header-bytes)
+    → let a = c .before .before .before .args in
+    (a .first + a .m .total ≤ length (a .«data» .now)) × (c .header-bytes .result + a .m .total + padBytes (missing (a .form)) ≤ length (a .«data» .now))
 fit c =
     let s = c .before .before .before in
     let a = s .args in
-    parts-fit (a .self-delimited) (upperSix (a .toc)) (a .ns .now) (a .m) (a .form) (a .«data» .now) (a .first) (c .header-bytes .result) (s .pre .0) (s .pre .1 .1 .1 .0) (c .header-bytes .ensures) (s .pre .1 .1 .1 .1)
+    parts-fit (a .self-delimited) (upperSix (a .toc)) (a .ns .now) (a .m) (a .form) (a .«data» .now) (a .first) (c .header-bytes .result) (s .pre .0)
+    (s .pre .1 .1 .1 .0) (c .header-bytes .ensures) (s .pre .1 .1 .1 .1)
 
 move-block-requires : tie.Need-move-block-requires
 move-block-requires c κs = (fit (c .before) .0, omega (arith, fit (c .before)))
@@ -32,7 +35,9 @@ put-header-requires c κs =
     let h = c .before .before .before .before .before in
     let s = h .before .before .before in
     let a = s .args in
-    let head = header-length (a .self-delimited) (upperSix (a .toc)) (a .ns .now) (a .m) (a .form) (a .«data» .now) (a .first) (h .header-bytes .result) (s .pre .0) (s .pre .1 .1 .1 .0) (h .header-bytes .ensures) in
+    let head =
+    header-length (a .self-delimited) (upperSix (a .toc)) (a .ns .now) (a .m) (a .form) (a .«data» .now) (a .first) (h .header-bytes .result) (s .pre .0)
+    (s .pre .1 .1 .1 .0) (h .header-bytes .ensures) in
     (s .pre .0, (s .pre .1 .0, omega (arith, head, fit h, c .before .before .before .move-block .kept .0)))
 
 add-fill : tie.Need-add-fill
@@ -60,7 +65,8 @@ returns c =
     let h = v .before .before in
     let s = h .before .before .before in
     let a = s .args in
-    rewritten (a .self-delimited) (upperSix (a .toc)) (a .ns .now) (a .m) (a .form) (a .«data» .now) (a .first) (h .header-bytes .result) (s .pre .0) (s .pre .1 .1 .1 .0) (h .header-bytes .ensures)
+    rewritten (a .self-delimited) (upperSix (a .toc)) (a .ns .now) (a .m) (a .form) (a .«data» .now) (a .first) (h .header-bytes .result) (s .pre .0)
+    (s .pre .1 .1 .1 .0) (h .header-bytes .ensures)
     (v .move-block .ensures) (p .put-header .ensures .0) (z .pad-bytes .ensures) (c .before .before .fill .ensures)
 
 pub rewrite-spec : {M : Type 1} → statement M

@@ -28,7 +28,8 @@ lying c =
     let p = c .before .before in
     let k = p .before .before .before in
     let a = k .before .args in
-    lies false (a .«data» .now) (a .len) (read c) (record { byte = λ i. k .slice-known .given i .fits }) (k .before .pre .0) (lent-accepted false _ _ _ (p .read-into .ensures) (c .enum-told .given .1)) (c .enum-told .given .1)
+    lies false (a .«data» .now) (a .len) (read c) (record { byte = λ i. k .slice-known .given i .fits }) (k .before .pre .0)
+    (lent-accepted false _ _ _ (p .read-into .ensures) (c .enum-told .given .1)) (c .enum-told .given .1)
 
 array-share-prefix-lengths : tie.Need-array-share-prefix-lengths
 array-share-prefix-lengths c = lying (c .before) .inside
@@ -56,7 +57,8 @@ returns c =
     let t = b .before .before .before in
     let s = t .before .before .before .before .before .before in
     let a = s .args in
-    meets (ap (leaves (a .«data» .now)) (unpad-read (a .«data» .now) (a .len) (read t) (lying t))) (ap pos (b .compact-frames .ensures .1)) (b .compact-frames .ensures .0)
+    meets (ap (leaves (a .«data» .now)) (unpad-read (a .«data» .now) (a .len) (read t) (lying t))) (ap pos (b .compact-frames .ensures .1))
+    (b .compact-frames .ensures .0)
 
 returns-2 : tie.Need-returns-2
 returns-2 c =

@@ -38,7 +38,8 @@ returns c =
     refused-as (block-refused (collectorOf (a .h) (a .len .now)) (a .toc) (a .ns .now) (a .«data» .now) (a .first) (a .store .now) (sym (g .goes-with .ensures) ∙ not-true _ (c .before .if1 .taken))) (c .refused-add .ensures)
 
 -- the frames go with those held
-goes : (c : tie.Else1) → let a = c .before .before .before .before .before .before .args in goesWith (collectorOf (a .h) []) (a .toc) (length (a .ns .now)) ≡ true
+goes : (c : tie.Else1)
+    → let a = c .before .before .before .before .before .before .args in goesWith (collectorOf (a .h) []) (a .toc) (length (a .ns .now)) ≡ true
 goes c = sym (c .before .goes-with .ensures) ∙ not-false _ (c .if1 .left)
 
 few : (c : tie.Else1) → let a = c .before .before .before .before .before .before .args in a .h .«nb_frames» + length (a .ns .now) ≤ 48
@@ -57,7 +58,9 @@ copy-into-requires : tie.Need-copy-into-requires
 copy-into-requires c κs =
     let i = c .before .before .before in
     let s = i .before .before .before .before .before .before in
-    let room = with-room (collectorOf (s .args .h) (s .args .len .now)) (s .args .toc) (s .args .ns .now) (s .pre .0 .1) (goes i) (byte s) (s .pre .0 .0) (s .pre .1 .1) (s .pre .1 .2) in
+    let room =
+    with-room (collectorOf (s .args .h) (s .args .len .now)) (s .args .toc) (s .args .ns .now) (s .pre .0 .1) (goes i) (byte s) (s .pre .0 .0)
+    (s .pre .1 .1) (s .pre .1 .2) in
     (omega (arith, s .pre .0 .2, sum c, room, s .pre .0 .3), omega (arith, sum c, s .pre .1 .3))
 
 put-lengths-requires : tie.Need-put-lengths-requires
@@ -78,8 +81,10 @@ returns-2 c =
     let i = t .before .before .before in
     let s = i .before .before .before .before .before .before in
     let a = s .args in
-    block-as (a .h) (a .len .now) (a .toc) (a .ns .now) (a .«data» .now) (a .first) (a .store .now) (goes i) (a .at) (t .wide .result) (c .more-frames .result) (p .put-lengths .last .0) (k .copy-into .last .0)
-    (s .pre .0 .2) (sum t) (c .more-frames .ensures) (p .put-lengths .ensures ∙ ap (λ n. sets (a .len .now) n (a .ns .now)) (w .wide2 .ensures .0)) (k .copy-into .ensures) (few i)
+    block-as (a .h) (a .len .now) (a .toc) (a .ns .now) (a .«data» .now) (a .first) (a .store .now) (goes i) (a .at) (t .wide .result)
+    (c .more-frames .result) (p .put-lengths .last .0) (k .copy-into .last .0)
+    (s .pre .0 .2) (sum t) (c .more-frames .ensures) (p .put-lengths .ensures ∙ ap (λ n. sets (a .len .now) n (a .ns .now)) (w .wide2 .ensures .0))
+    (k .copy-into .ensures) (few i)
 
 pub add-block-spec : {M : Type 1} → statement M
 add-block-spec =

@@ -29,7 +29,8 @@ returns-3 c =
     let b = g .before .before .before in
     let i = b .before .before in
     let a = i .before .before .args in
-    check-time (collectorOf (a .h) (a .len .now)) (i .if1 .left) (b .samples-8k .result .0) (b .samples-8k .ensures) (g .if2 .left) (sym (c .before .fits2 .ensures) ∙ not-true _ (c .if3 .taken))
+    check-time (collectorOf (a .h) (a .len .now)) (i .if1 .left) (b .samples-8k .result .0) (b .samples-8k .ensures) (g .if2 .left)
+    (sym (c .before .fits2 .ensures) ∙ not-true _ (c .if3 .taken))
 
 byte : (c : tie.Start) → c .args .h .toc < 256
 byte c = search needs
@@ -40,7 +41,8 @@ few c =
     let b = g .before .before .before in
     let i = b .before .before in
     let s = i .before .before in
-    check-few (collectorOf (s .args .h) (s .args .len .now)) (i .if1 .left) (b .samples-8k .result .0) (b .samples-8k .ensures) (g .if2 .left) (byte s) (s .pre) (sym (c .before .fits2 .ensures) ∙ not-false _ (c .if3 .left))
+    check-few (collectorOf (s .args .h) (s .args .len .now)) (i .if1 .left) (b .samples-8k .result .0) (b .samples-8k .ensures) (g .if2 .left) (byte s)
+    (s .pre) (sym (c .before .fits2 .ensures) ∙ not-false _ (c .if3 .left))
 
 slice-aggregate-measure : tie.Need-slice-aggregate-measure
 slice-aggregate-measure c =
@@ -57,7 +59,8 @@ returns-4 c =
     let b = g .before .before .before in
     let i = b .before .before in
     let s = i .before .before in
-    check-long (collectorOf (s .args .h) (s .args .len .now)) (i .if1 .left) (b .samples-8k .result .0) (b .samples-8k .ensures) (g .if2 .left) (byte s) (s .pre) (sym (f .before .fits2 .ensures) ∙ not-false _ (f .if3 .left))
+    check-long (collectorOf (s .args .h) (s .args .len .now)) (i .if1 .left) (b .samples-8k .result .0) (b .samples-8k .ensures) (g .if2 .left) (byte s)
+    (s .pre) (sym (f .before .fits2 .ensures) ∙ not-false _ (f .if3 .left))
     (w .wide .result) (m .measure .result) (w .wide .ensures .0) (m .measure .ensures) (omega (arith, c .before .wide2 .ensures .0))
 
 returns-5 : tie.Need-returns-5
@@ -70,7 +73,8 @@ returns-5 c =
     let b = g .before .before .before in
     let i = b .before .before in
     let s = i .before .before in
-    check-total (collectorOf (s .args .h) (s .args .len .now)) (i .if1 .left) (b .samples-8k .result .0) (b .samples-8k .ensures) (g .if2 .left) (byte s) (s .pre) (sym (f .before .fits2 .ensures) ∙ not-false _ (f .if3 .left))
+    check-total (collectorOf (s .args .h) (s .args .len .now)) (i .if1 .left) (b .samples-8k .result .0) (b .samples-8k .ensures) (g .if2 .left) (byte s)
+    (s .pre) (sym (f .before .fits2 .ensures) ∙ not-false _ (f .if3 .left))
     (w .wide .result) (m .measure .result) (w .wide .ensures .0) (m .measure .ensures) (omega (arith, l .before .wide2 .ensures .0)) (c .wide3 .ensures .0)
 
 pub check-spec : {M : Type 1} → statement M

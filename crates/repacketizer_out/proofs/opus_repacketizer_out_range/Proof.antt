@@ -16,7 +16,9 @@ returns c =
     let a = s .args in
     let r = c .before .before .opus-repacketizer-out-range-impl in
     let back : toZ w32 (ofZ w32 (r .result)) ≡ r .result = search needs in
-    let o = meets (out-passed false false (a .rp) (a .store .now) (a .begin) (a .end) (a .«data» .now) (s .fits .begin) (s .fits .end)) (r .ensures .0) (r .ensures .1) in
+    let o =
+    meets (out-passed false false (a .rp) (a .store .now) (a .begin) (a .end) (a .«data» .now) (s .fits .begin) (s .fits .end)) (r .ensures .0)
+    (r .ensures .1) in
     (back ∙ o .0, o .1)
 
 pub opus-repacketizer-out-range-spec : {M : Type 1} → statement M

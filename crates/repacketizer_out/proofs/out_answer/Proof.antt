@@ -58,7 +58,8 @@ ready : (c : tie.Else3)
     → let a = c .before .before .before .before .before .before .before .before .args in
     let r = taken (c .before .before .before .before) in
     outRange (a .self-delimited) (a .pad) r (a .store .now) (a .begin) (a .end) (a .«data» .now)
-    ≡ leaves (a .«data» .now) (outFrames (a .self-delimited) (a .pad) (upperSix (r .toc)) (held r (a .store .now)) (a .begin) (a .end) (length (a .«data» .now)))
+    ≡ leaves (a .«data» .now)
+    (outFrames (a .self-delimited) (a .pad) (upperSix (r .toc)) (held r (a .store .now)) (a .begin) (a .end) (length (a .«data» .now)))
 ready c =
     let a = c .before .before .before .before .before .before .before .before .args in
     let r = taken (c .before .before .before .before) in

@@ -54,7 +54,9 @@ part-put-frames-end : tie.Need-part-put-frames-end
 part-put-frames-end c = part (c .before .before) .inside
 
 -- where it begins
-from : (c : tie.After-wide2) → let a = c .before .before .before .before .before .before .before .before .before .before .args in c .wide2 .result ≡ total (take (a .begin) (a .len .now))
+from : (c : tie.After-wide2)
+    → let a = c .before .before .before .before .before .before .before .before .before .before .args in
+    c .wide2 .result ≡ total (take (a .begin) (a .len .now))
 from c =
     let m = c .before .before in
     part-from (part (m .before .before)) (m .measure .result) (m .measure .ensures) (c .wide2 .ensures .0)

@@ -22,7 +22,8 @@ returns c =
     let n = c .before in
     let s = n .before .before .before .before .before in
     let a = s .args in
-    put-refused (a .self-delimited) (a .pad) (upperSix (a .toc)) (a .ns .now) (a .store .now) (a .from) (a .«data» .now) (s .pre .1 .0) (n .before .sums-of .ensures) (n .compact-bytes .ensures) (c .if1 .taken)
+    put-refused (a .self-delimited) (a .pad) (upperSix (a .toc)) (a .ns .now) (a .store .now) (a .from) (a .«data» .now) (s .pre .1 .0)
+    (n .before .sums-of .ensures) (n .compact-bytes .ensures) (c .if1 .taken)
 
 -- the header and the frames fit, so they end within the destination
 room : (c : tie.After-form-for) → let s = c .before .before .before .before .before .before .before in length (headerOf (s .args .self-delimited) (upperSix (s .args .toc)) (s .args .ns .now) (c .form-for .result)) + total (s .args .ns .now) ≤ length (s .args .«data» .now)
@@ -30,9 +31,11 @@ room c =
     let n = c .before .before in
     let s = n .before .before .before .before .before in
     let a = s .args in
-    put-room (a .self-delimited) (a .pad) (upperSix (a .toc)) (a .ns .now) (a .store .now) (a .from) (a .«data» .now) (s .pre .1 .0) (n .before .sums-of .ensures) (n .compact-bytes .ensures) (c .before .if1 .left) (c .form-for .ensures)
+    put-room (a .self-delimited) (a .pad) (upperSix (a .toc)) (a .ns .now) (a .store .now) (a .from) (a .«data» .now) (s .pre .1 .0)
+    (n .before .sums-of .ensures) (n .compact-bytes .ensures) (c .before .if1 .left) (c .form-for .ensures)
 
-within : (c : tie.After-put-packet) → c .put-packet .result ≤ length (c .before .before .before .before .before .before .before .before .before .args .«data» .now)
+within : (c : tie.After-put-packet)
+    → c .put-packet .result ≤ length (c .before .before .before .before .before .before .before .before .before .args .«data» .now)
 within c = omega (arith, c .put-packet .ensures .1, room (c .before .before))
 
 put-packet-requires : tie.Need-put-packet-requires
@@ -54,7 +57,9 @@ returns-2 c =
     let n = f .before .before in
     let s = n .before .before .before .before .before in
     let a = s .args in
-    put-padded (a .self-delimited) (a .pad) (upperSix (a .toc)) (a .ns .now) (a .store .now) (a .from) (a .«data» .now) (s .pre .1 .0) (n .before .sums-of .ensures) (n .compact-bytes .ensures) (f .before .if1 .left) (f .form-for .ensures) (p .put-packet .ensures .0) (p .put-packet .ensures .1) (c .before .before .before .before .if2 .taken) (c .before .before .fill .ensures)
+    put-padded (a .self-delimited) (a .pad) (upperSix (a .toc)) (a .ns .now) (a .store .now) (a .from) (a .«data» .now) (s .pre .1 .0)
+    (n .before .sums-of .ensures) (n .compact-bytes .ensures) (f .before .if1 .left) (f .form-for .ensures) (p .put-packet .ensures .0)
+    (p .put-packet .ensures .1) (c .before .before .before .before .if2 .taken) (c .before .before .fill .ensures)
 
 cast-t23 : tie.Need-cast-t23
 cast-t23 c =
@@ -68,7 +73,9 @@ returns-3 c =
     let n = f .before .before in
     let s = n .before .before .before .before .before in
     let a = s .args in
-    put-plain (a .self-delimited) (a .pad) (upperSix (a .toc)) (a .ns .now) (a .store .now) (a .from) (a .«data» .now) (s .pre .1 .0) (n .before .sums-of .ensures) (n .compact-bytes .ensures) (f .before .if1 .left) (f .form-for .ensures) (p .put-packet .ensures .0) (p .put-packet .ensures .1) (c .if2 .left)
+    put-plain (a .self-delimited) (a .pad) (upperSix (a .toc)) (a .ns .now) (a .store .now) (a .from) (a .«data» .now) (s .pre .1 .0)
+    (n .before .sums-of .ensures) (n .compact-bytes .ensures) (f .before .if1 .left) (f .form-for .ensures) (p .put-packet .ensures .0)
+    (p .put-packet .ensures .1) (c .if2 .left)
 
 pub put-frames-spec : {M : Type 1} → statement M
 put-frames-spec =

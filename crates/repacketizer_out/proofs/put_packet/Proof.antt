@@ -25,7 +25,8 @@ returns c =
     let h = c .before .before .before .before .before .before .put-header in
     let s = c .before .before .before .before .before .before .before .before .before .before .before in
     let a = s .args in
-    put-block (a .«data» .now) (headerOf (a .self-delimited) (upperSix (a .toc)) (a .ns .now) (a .form)) (a .store .now) (a .from) (a .ns .now) (s .pre .0) (h .ensures .0) (h .ensures .1) (c .before .before .copy-into .ensures)
+    put-block (a .«data» .now) (headerOf (a .self-delimited) (upperSix (a .toc)) (a .ns .now) (a .form)) (a .store .now) (a .from) (a .ns .now) (s .pre .0)
+    (h .ensures .0) (h .ensures .1) (c .before .before .copy-into .ensures)
 
 pub put-packet-spec : {M : Type 1} → statement M
 put-packet-spec =

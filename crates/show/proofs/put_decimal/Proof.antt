@@ -18,7 +18,9 @@ returns c =
     let p = c .before .before .put-text in
     let d = c .before .before .before .before .before .decimal in
     let s = c .before .before .before .before .before .before .before .before in
-    laid-ends (decimal-laid (d .last .1 .0) (d .result) (s .args .n) (d .ensures .1 .0) (d .ensures .1 .1) (record { bytes = p .ensures .0; place = p .ensures .1 })) refl
+    laid-ends
+    (decimal-laid (d .last .1 .0) (d .result) (s .args .n) (d .ensures .1 .0) (d .ensures .1 .1) (record { bytes = p .ensures .0; place = p .ensures .1 }))
+    refl
 
 pub put-decimal-spec : {M : Type 1} → statement M
 put-decimal-spec =

@@ -21,7 +21,8 @@ put-text-requires c κs =
     (laid-as (a .out .now) (a .at) (negative-text (a .x) (s .fits .x) (i .if1 .taken) refl) (s .pre))
 
 -- the minus sign
-minus : (c : tie.After-put-text) → let a = c .before .before .before .before .before .args in Laid (a .out .now) (a .at) (45 ∷ []) (c .put-text .last .0) (c .put-text .result)
+minus : (c : tie.After-put-text)
+    → let a = c .before .before .before .before .before .args in Laid (a .out .now) (a .at) (45 ∷ []) (c .put-text .last .0) (c .put-text .result)
 minus c = record { bytes = c .put-text .ensures .0; place = c .put-text .ensures .1 }
 
 put-decimal-requires : tie.Need-put-decimal-requires
@@ -41,7 +42,8 @@ returns c =
     let i = p .before .before .before in
     let s = i .before .before in
     let digits = decimal (m .magnitude .result) in
-    laid-ends (laid-then (minus p) digits (record { bytes = d .ensures .0; place = d .ensures .1 })) (negative-text (s .args .x) (s .fits .x) (i .if1 .taken) (m .magnitude .ensures))
+    laid-ends (laid-then (minus p) digits (record { bytes = d .ensures .0; place = d .ensures .1 }))
+    (negative-text (s .args .x) (s .fits .x) (i .if1 .taken) (m .magnitude .ensures))
 
 put-decimal-requires-2 : tie.Need-put-decimal-requires-2
 put-decimal-requires-2 c κs =

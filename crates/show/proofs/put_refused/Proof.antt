@@ -16,11 +16,15 @@ put-text-requires c κs =
     first-room (refusal-parts (s .args .out .now) (s .args .number) (s .fits .number) (s .pre))
 
 -- what stands behind the first call, and behind the second
-one : (c : tie.After-put-text) → let a = c .before .before .before .before .args in Laid (a .out .now) 0 refusedLabel (c .put-text .last .0) (c .put-text .result)
+one : (c : tie.After-put-text)
+    → let a = c .before .before .before .before .args in Laid (a .out .now) 0 refusedLabel (c .put-text .last .0) (c .put-text .result)
 unfolding refusedLabel
 one c = record { bytes = c .put-text .ensures .0; place = c .put-text .ensures .1 }
 
-two : (c : tie.After-put-number) → let p = c .before .before .before .before in let a = p .before .before .before .before .args in Laid (p .put-text .last .0) (p .put-text .result) (integer (toZ w32 (ofZ w32 (a .number)))) (c .put-number .last .0) (c .put-number .result)
+two : (c : tie.After-put-number)
+    → let p = c .before .before .before .before in
+    let a = p .before .before .before .before .args in
+    Laid (p .put-text .last .0) (p .put-text .result) (integer (toZ w32 (ofZ w32 (a .number)))) (c .put-number .last .0) (c .put-number .result)
 two c = record { bytes = c .put-number .ensures .0; place = c .put-number .ensures .1 }
 
 put-number-requires : tie.Need-put-number-requires

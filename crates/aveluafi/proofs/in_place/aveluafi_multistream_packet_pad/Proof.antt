@@ -15,7 +15,8 @@ returns c =
     let s = c .before .before .before .before .before in
     let a = s .args in
     let back : toZ w32 (ofZ w32 (r .result)) ≡ r .result = search needs in
-    meets (pad-passed (a .«data» .now) (a .len) (a .new-len) (a .nb-streams) (s .fits .len) (s .fits .new-len) (s .fits .nb-streams)) (back ∙ r .ensures .0) (r .ensures .1)
+    meets (pad-passed (a .«data» .now) (a .len) (a .new-len) (a .nb-streams) (s .fits .len) (s .fits .new-len) (s .fits .nb-streams)) (back ∙ r .ensures .0)
+    (r .ensures .1)
 
 pub aveluafi-multistream-packet-pad-spec : {M : Type 1} → statement M
 aveluafi-multistream-packet-pad-spec = tie.close (tie.spec (λ c κs. search needs) (λ c. search needs) returns)

@@ -24,7 +24,8 @@ returns-2 c =
     let f = c .before .before .f in
     let b = c .before .before .before .before in
     let a = b .before .before .before .args in
-    frames-over (a .s .now) (a .k) (a .rule) _ _ _ (sym (f .given .1) ∙ b .read-sizes .ensures .0, b .read-sizes .ensures .1) (a .self-delimited) (c .if1 .taken) _
+    frames-over (a .s .now) (a .k) (a .rule) _ _ _ (sym (f .given .1) ∙ b .read-sizes .ensures .0, b .read-sizes .ensures .1) (a .self-delimited)
+    (c .if1 .taken) _
 
 own-last-requires : tie.Need-own-last-requires
 own-last-requires c κs =

@@ -19,22 +19,26 @@ loop-holds c = chain-start _
 returns : tie.Need-returns Inv-loop μ-loop
 returns c =
     let b = c .before .before in
-    chain-unfit _ _ _ (b .before .before .before .loop .inv) _ (b .before .before .loop-test .taken) (b .wide-byte .ensures .0) (c .before .if1 .taken) (c .if2 .taken)
+    chain-unfit _ _ _ (b .before .before .before .loop .inv) _ (b .before .before .loop-test .taken) (b .wide-byte .ensures .0) (c .before .if1 .taken)
+    (c .if2 .taken)
 
 returns-2 : tie.Need-returns-2 Inv-loop μ-loop
 returns-2 c =
     let b = c .before .before in
-    chain-whole _ _ _ (b .before .before .before .loop .inv) _ (b .before .before .loop-test .taken) (b .wide-byte .ensures .0) (c .before .if1 .taken) (c .if2 .left)
+    chain-whole _ _ _ (b .before .before .before .loop .inv) _ (b .before .before .loop-test .taken) (b .wide-byte .ensures .0) (c .before .if1 .taken)
+    (c .if2 .left)
 
 returns-3 : tie.Need-returns-3 Inv-loop μ-loop
 returns-3 c =
     let b = c .before .before in
-    chain-over _ _ _ (b .before .before .before .loop .inv) _ (b .before .before .loop-test .taken) (b .wide-byte .ensures .0) (c .before .if1 .left) (c .if3 .taken)
+    chain-over _ _ _ (b .before .before .before .loop .inv) _ (b .before .before .loop-test .taken) (b .wide-byte .ensures .0) (c .before .if1 .left)
+    (c .if3 .taken)
 
 loop-again : tie.Need-loop-again Inv-loop μ-loop
 loop-again c =
     let b = c .before .before in
-    chain-more _ _ _ (b .before .before .before .loop .inv) _ (b .before .before .loop-test .taken) (b .wide-byte .ensures .0) (c .before .if1 .left) (c .if3 .left)
+    chain-more _ _ _ (b .before .before .before .loop .inv) _ (b .before .before .loop-test .taken) (b .wide-byte .ensures .0) (c .before .if1 .left)
+    (c .if3 .left)
 
 returns-4 : tie.Need-returns-4 Inv-loop μ-loop
 returns-4 c = chain-end _ _ _ (c .before .loop .inv) (c .loop-test .left)

@@ -9,7 +9,9 @@ use Rattle.packet_pad.proofs.lengths.lengths_of.Statement.{statement}
 use Rattle.packet_pad.proofs.lengths.lengths_of.Tie as tie
 
 -- what the two numbers say together
-told : {l : Lengths} (c : tie.After-length-of2) → let a = c .before .before .before .args in l ≡ lengthsBy (c .before .length-of .result) (c .length-of2 .result) → l ≡ lengthsOf (a .«data» .now) (a .len) (a .new-len)
+told : {l : Lengths} (c : tie.After-length-of2)
+    → let a = c .before .before .before .args in l ≡ lengthsBy (c .before .length-of .result) (c .length-of2 .result)
+    → l ≡ lengthsOf (a .«data» .now) (a .len) (a .new-len)
 told c e =
     let s = c .before .before .before in
     let a = s .args in

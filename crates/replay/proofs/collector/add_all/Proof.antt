@@ -7,7 +7,8 @@ use Rattle.replay.proofs.collector.add_all.Statement.{statement}
 use Rattle.replay.proofs.collector.add_all.Tie as tie
 
 abbrev Inv-loop : tie.InvT-loop
-Inv-loop input₀ work₀ store₀ out₀ n s₀ left₀ input work store out s left = (length input ≡ length input₀) × (length work ≡ length work₀) × (length store ≡ length store₀) × (length out ≡ length out₀)
+Inv-loop input₀ work₀ store₀ out₀ n s₀ left₀ input work store out s left =
+    (length input ≡ length input₀) × (length work ≡ length work₀) × (length store ≡ length store₀) × (length out ≡ length out₀)
 
 abbrev μ-loop : tie.MeasureT-loop
 μ-loop input₀ work₀ store₀ out₀ n s₀ left₀ input work store out s left = left
