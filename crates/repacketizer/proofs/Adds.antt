@@ -34,7 +34,7 @@ use Rattle.repacketizer.specs.declared.OpusRepacketizer.{OpusRepacketize
 use Rattle.repacketizer.specs.declared.Head.{Head}
 use Rattle.repacketizer.specs.declared.AddedHead.{AddedHead}
 use Rattle.repacketizer.specs.Collector.{heldLengths, leastStore, sound}
-use Rattle.repacketizer.specs.Adding.{Adding, noAdd, goesWith, withFrames, addBlock, addRead, addPacket, added}
+use Rattle.repacketizer.specs.Adding.{Adding, noAdd, goesWith, withFrames, Addition, refusal, takes, leavesAdd, readAdds, adds, addBlock, addPacket, added}
 use Rattle.repacketizer.specs.Parts.{collectorOf, refusedHead, moreFrames, addedOf}
 use Rattle.opus_format.proofs.Lengths.{total-most}
 use Rattle.repacketizer.proofs.Held.{holding}
@@ -93,11 +93,7 @@ module _ (h : Head) (count : ℕ) (e : count ≡ h .«nb_frames») where
 -- ---- an add by its tests
 -- frames that are added
 abbrev pub taken : OpusRepacketizer → ℕ → List ℕ → List ℕ → ℕ → List ℕ → Adding
-taken rp toc ns p first store =
-    record {
-      answer = record { verdict = Accepted; rp = withFrames rp toc ns };
-      store = copied store (total (heldLengths rp)) p first (total ns);
-    }
+taken rp toc ns p first store = leavesAdd rp p store (takes toc ns first)
 
 module _ (rp : OpusRepacketizer) (toc : ℕ) (ns p : List ℕ) (first : ℕ) (store : List ℕ) where
   pub block-refused : goesWith rp toc (length ns) ≡ false → addBlock rp toc ns p first store ≡ noAdd InvalidPacket rp store
@@ -128,7 +124,7 @@ module _ (sd : Bool) (rp : OpusRepacketizer) (p store : List ℕ) where
   add-tight s h = rw (s, lt-ltb (length store) leastStore h)
 
   pub add-sound : sound rp ≡ true → leastStore ≤ length store → added sd rp p store ≡ addPacket sd rp p store
-  unfolding added
+  unfolding added addPacket
   add-sound s h = rw (s, le-ltb (length store) leastStore h)
 
   pub add-long : 65535 < length p → addPacket sd rp p store ≡ noAdd BadArg rp store
@@ -141,7 +137,7 @@ module _ (sd : Bool) (rp : OpusRepacketizer) (p store : List ℕ) where
 
   pub add-read : (toc : ℕ) (ns : List ℕ) (first end : ℕ) → length p ≤ 65535 → read sd p ≡ accepted toc ns first end
       → addPacket sd rp p store ≡ addBlock rp toc ns p first store
-  unfolding addPacket
+  unfolding addPacket addBlock
   add-read toc ns first end h r = rw (le-ltb 65535 (length p) h, r)
 
   -- an empty collector takes what the reader accepts
@@ -157,30 +153,34 @@ pub refused-as : {a : Adding} {e : Refusal} {h : Head} {len store : List ℕ} {r
 refused-as p q = (rw (p, q .0), (rw p, q .1))
 
 -- ---- how an add ends
-pub data Ends (sd : Bool) (rp : OpusRepacketizer) (p store : List ℕ) : Adding → Type 0 where
-  refuses : (e : Refusal) → Ends sd rp p store (noAdd e rp store)
-  takes : (toc : ℕ) (ns : List ℕ) (first end : ℕ) → read sd p ≡ accepted toc ns first end → goesWith rp toc (length ns) ≡ true
-      → Ends sd rp p store (taken rp toc ns p first store)
+-- one that takes frames has read them, and they go with those held
+pub record Took (sd : Bool) (rp : OpusRepacketizer) (p : List ℕ) (toc : ℕ) (ns : List ℕ) (first : ℕ) : Type 0 where
+  pub end : ℕ
+  pub reads : read sd p ≡ accepted toc ns first end
+  pub goes : goesWith rp toc (length ns) ≡ true
 
-pub ends : (sd : Bool) (rp : OpusRepacketizer) (p store : List ℕ) → Ends sd rp p store (added sd rp p store)
-unfolding added addPacket
-ends sd rp p store =
+pub took : (sd : Bool) (rp : OpusRepacketizer) (p : List ℕ) (bytes toc : ℕ) (ns : List ℕ) (first : ℕ) → adds sd rp p bytes ≡ takes toc ns first
+    → Took sd rp p toc ns first
+took sd rp p bytes toc ns first e =
     by-test (sound rp)
-    (λ s. by-test (ltb (length store) leastStore)
-    (λ h. rw (s, h) (refuses BadArg))
-    (λ h. by-test (ltb 65535 (length p)) (λ k. rw (s, h, k) (refuses BadArg)) (λ k. rw (s, h, k) (go (read sd p) refl))))
-    (λ s. rw s (refuses InvalidState))
+    (λ s. by-test (ltb bytes leastStore) (λ h. never (let q = rw (s, h) at e in cc))
+    (λ h. by-test (ltb 65535 (length p)) (λ k. never (let q = rw (s, h, k) at e in cc)) (λ k. go (read sd p) refl (rw (s, h, k) at e))))
+    (λ s. never (let q = rw s at e in cc))
   where
-    go : (x : Reading) → read sd p ≡ x → Ends sd rp p store (addRead rp p store (read sd p))
-    go (refused rule) q = rw q (refuses (ruleRefusal rule))
-    go (accepted toc ns first end) q =
-        rw q
-        (by-test (goesWith rp toc (length ns))
-        (λ g. rw (block-added rp toc ns p first store g) (takes toc ns first end q g))
-        (λ g. rw (block-refused rp toc ns p first store g) (refuses InvalidPacket)))
+    go : (x : Reading) → read sd p ≡ x → readAdds rp x ≡ takes toc ns first → Took sd rp p toc ns first
+    go (refused rule) q e = never (cc)
+    go (accepted toc′ ns′ first′ end) q e =
+        by-test (goesWith rp toc′ (length ns′))
+        (λ g.
+        let f = rw g at e in
+        let same : accepted toc′ ns′ first′ end ≡ accepted toc ns first end = cc in
+        let lengths-are : ns′ ≡ ns = cc in
+        let toc-is : toc′ ≡ toc = cc in
+        record { end = end; reads = q ∙ same; goes = rw (← lengths-are, ← toc-is) g })
+        (λ g. never (let f = rw g at e in cc))
 
 -- a refused add changes nothing
-pub refused-same : {sd : Bool} {rp : OpusRepacketizer} {p store : List ℕ} {a : Adding} {e : Refusal} → Ends sd rp p store a → a .answer .verdict ≡ Refused e
-    → (a .answer .rp ≡ rp) × (a .store ≡ store)
-refused-same (refuses e) v = (refl, refl)
-refused-same (takes toc ns first end q g) v = never (cc)
+pub refused-keeps : (rp : OpusRepacketizer) (p store : List ℕ) (x : Addition) {e : Refusal} → leavesAdd rp p store x .answer .verdict ≡ Refused e
+    → (leavesAdd rp p store x .answer .rp ≡ rp) × (leavesAdd rp p store x .store ≡ store)
+refused-keeps rp p store (refusal e) v = (refl, refl)
+refused-keeps rp p store (takes toc ns first) v = never (cc)

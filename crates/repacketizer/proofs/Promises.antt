@@ -17,9 +17,9 @@ use Rattle.opus_toc.proofs.Samples.{lasts-at}
 use Rattle.opus_format.specs.Reading.{accepted, read}
 use Rattle.repacketizer.specs.declared.OpusRepacketizer.{OpusRepacketizer}
 use Rattle.repacketizer.specs.Collector.{empty, held, leastStore}
-use Rattle.repacketizer.specs.Adding.{added, addedNumber}
+use Rattle.repacketizer.specs.Adding.{adds, added, addedNumber}
 use Rattle.repacketizer.specs.Runs.{State, Ready, AllBytes, afterAdds, framesAccepted}
-use Rattle.repacketizer.proofs.Adds.{add-empty, ends, refused-same}
+use Rattle.repacketizer.proofs.Adds.{add-empty, refused-keeps}
 use Rattle.repacketizer.proofs.Runs.{empty-ready, runs-ready, runs-held}
 
 -- an empty collector with a store that is long enough
@@ -53,9 +53,10 @@ limits-agree count c h = lasts-at 8000 refl count c h ∙ sym (lasts-at 48000 re
 -- 7. A refused add changes nothing; its number is that of the verdict.
 pub refused-add-changes-nothing : (sd : Bool) (rp : OpusRepacketizer) (p store : List ℕ) (n : ℕ) → addedNumber (added sd rp p store .answer) ≡ negsuc n
     → (added sd rp p store .answer .rp ≡ rp) × (added sd rp p store .store ≡ store)
+unfolding added
 refused-add-changes-nothing sd rp p store n r = go (added sd rp p store .answer .verdict) refl r
   where
     go : (v : Verdict) → added sd rp p store .answer .verdict ≡ v → verdictNumber (pos 0) v ≡ negsuc n
         → (added sd rp p store .answer .rp ≡ rp) × (added sd rp p store .store ≡ store)
     go Accepted e r = never (cc)
-    go (Refused c) e r = refused-same (ends sd rp p store) e
+    go (Refused c) e r = refused-keeps rp p store (adds sd rp p (length store)) e

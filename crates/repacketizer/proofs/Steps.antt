@@ -1,6 +1,6 @@
 -- One add: the collector stays sound, and what it holds grows by the frames of an accepted packet.
 -- Assumes nothing.
-use mathlib.Core.Path.{_≡_, sym, _∙_}
+use mathlib.Core.Path.{_≡_, sym, _∙_, refl}
 use mathlib.Core.List.{List, _++_, append-nil}
 use mathlib.Core.Bool.{Bool, true}
 use Prim.Native.Nat.{ℕ, _+_, _≤_, _<_}
@@ -16,13 +16,13 @@ use Rattle.opus_format.specs.Reading.{accepted, read, framesOf}
 use Rattle.opus_format.proofs.Facts.{Facts, facts}
 use Rattle.blocks.specs.Blocks.{part}
 use Rattle.repacketizer.specs.Collector.{held, heldLengths}
-use Rattle.repacketizer.specs.Adding.{Adding, goesWith, withFrames, added}
+use Rattle.repacketizer.specs.Adding.{Adding, goesWith, withFrames, Addition, refusal, takes, leavesAdd, adds, added}
 use Rattle.repacketizer.specs.Runs.{State, Ready, afterAdd, framesIf}
 use Rattle.opus_format.proofs.Lengths.{longest-append}
 use Rattle.repacketizer.proofs.Lengths.{take-sets-at, cut-copied}
 use Rattle.repacketizer.proofs.Sound.{full-sound}
 use Rattle.repacketizer.proofs.Held.{Holding, holding}
-use Rattle.repacketizer.proofs.Adds.{with-few, with-timed, with-room, taken, Ends, refuses, takes, ends}
+use Rattle.repacketizer.proofs.Adds.{with-few, with-timed, with-room, taken, took}
 
 -- the collector and the store that an add leaves
 abbrev stateOf : Adding → State
@@ -65,18 +65,25 @@ module _ (sd : Bool) (s : State) (p : List ℕ) (r : Ready s) (b : Bytes p) (toc
 
 -- ---- any packet
 pub add-ready : (sd : Bool) (s : State) (p : List ℕ) → Ready s → Bytes p → Ready (afterAdd sd s p)
-add-ready sd s p r b = go (ends sd (s .rp) p (s .store))
+unfolding added
+add-ready sd s p r b = go (adds sd (s .rp) p (length (s .store))) refl
   where
-    go : {a : Adding} → Ends sd (s .rp) p (s .store) a → Ready (stateOf a)
-    go (refuses e) = r
-    go (takes toc ns first end q g) = taken-ready sd s p r b toc ns first end q g
+    go : (x : Addition) → adds sd (s .rp) p (length (s .store)) ≡ x → Ready (stateOf (leavesAdd (s .rp) p (s .store) x))
+    go (refusal e) h = r
+    go (takes toc ns first) h =
+        let t = took sd (s .rp) p (length (s .store)) toc ns first h in
+        taken-ready sd s p r b toc ns first (t .end) (t .reads) (t .goes)
 
 pub add-held : (sd : Bool) (s : State) (p : List ℕ) → Ready s → Bytes p
     → held (afterAdd sd s p .rp) (afterAdd sd s p .store)
     ≡ held (s .rp) (s .store) ++ framesIf (added sd (s .rp) p (s .store) .answer .verdict) (framesOf p (read sd p))
-add-held sd s p r b = go (ends sd (s .rp) p (s .store))
+unfolding added
+add-held sd s p r b = go (adds sd (s .rp) p (length (s .store))) refl
   where
-    go : {a : Adding} → Ends sd (s .rp) p (s .store) a
-        → held (a .answer .rp) (a .store) ≡ held (s .rp) (s .store) ++ framesIf (a .answer .verdict) (framesOf p (read sd p))
-    go (refuses e) = sym (append-nil (held (s .rp) (s .store)))
-    go (takes toc ns first end q g) = taken-held sd s p r b toc ns first end q g
+    go : (x : Addition) → adds sd (s .rp) p (length (s .store)) ≡ x
+        → let a = leavesAdd (s .rp) p (s .store) x in
+        held (a .answer .rp) (a .store) ≡ held (s .rp) (s .store) ++ framesIf (a .answer .verdict) (framesOf p (read sd p))
+    go (refusal e) h = sym (append-nil (held (s .rp) (s .store)))
+    go (takes toc ns first) h =
+        let t = took sd (s .rp) p (length (s .store)) toc ns first h in
+        taken-held sd s p r b toc ns first (t .end) (t .reads) (t .goes)

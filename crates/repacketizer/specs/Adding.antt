@@ -53,27 +53,41 @@ withFrames rp toc ns =
       len = sets (rp .len) (rp .«nb_frames») ns;
     }
 
--- frames of lengths ns, at place `first` of the packet p, are copied behind those held as one block
-unfoldable pub addBlock : OpusRepacketizer → ℕ → List ℕ → List ℕ → ℕ → List ℕ → Adding
-addBlock rp toc ns p first store =
-    cond (goesWith rp toc (length ns))
-    (record {
+-- an add refuses, or takes frames of these lengths, with this TOC byte, from a place of the packet on
+pub data Addition : Type 0 where
+  refusal : Refusal → Addition
+  takes : ℕ → List ℕ → ℕ → Addition
+
+-- what it leaves: the frames of the packet p are copied behind those held as one block
+abbrev pub leavesAdd : OpusRepacketizer → List ℕ → List ℕ → Addition → Adding
+leavesAdd rp p store (refusal e) = noAdd e rp store
+leavesAdd rp p store (takes toc ns first) =
+    record {
       answer = record { verdict = Accepted; rp = withFrames rp toc ns };
       store = copied store (total (heldLengths rp)) p first (total ns);
-    })
-    (noAdd InvalidPacket rp store)
+    }
 
-abbrev pub addRead : OpusRepacketizer → List ℕ → List ℕ → Reading → Adding
-addRead rp p store (refused rule) = noAdd (ruleRefusal rule) rp store
-addRead rp p store (accepted toc ns first taken) = addBlock rp toc ns p first store
+abbrev pub blockAdds : OpusRepacketizer → ℕ → List ℕ → ℕ → Addition
+blockAdds rp toc ns first = cond (goesWith rp toc (length ns)) (takes toc ns first) (refusal InvalidPacket)
+
+abbrev pub readAdds : OpusRepacketizer → Reading → Addition
+readAdds rp (refused rule) = refusal (ruleRefusal rule)
+readAdds rp (accepted toc ns first taken) = blockAdds rp toc ns first
 
 -- a packet over 65,535 bytes is refused before it is read
+abbrev pub packetAdds : Bool → OpusRepacketizer → List ℕ → Addition
+packetAdds sd rp p = cond (ltb mostPacket (length p)) (refusal BadArg) (readAdds rp (read sd p))
+
+-- an unsound collector, then a store of too few bytes
+abbrev pub adds : Bool → OpusRepacketizer → List ℕ → ℕ → Addition
+adds sd rp p bytes = cond (sound rp) (cond (ltb bytes leastStore) (refusal BadArg) (packetAdds sd rp p)) (refusal InvalidState)
+
+unfoldable pub addBlock : OpusRepacketizer → ℕ → List ℕ → List ℕ → ℕ → List ℕ → Adding
+addBlock rp toc ns p first store = leavesAdd rp p store (blockAdds rp toc ns first)
+
 unfoldable pub addPacket : Bool → OpusRepacketizer → List ℕ → List ℕ → Adding
-addPacket sd rp p store = cond (ltb mostPacket (length p)) (noAdd BadArg rp store) (addRead rp p store (read sd p))
+addPacket sd rp p store = leavesAdd rp p store (packetAdds sd rp p)
 
 -- `opus_repacketizer_cat_impl`; `opus_repacketizer_cat` is its ordinary form
 unfoldable pub added : Bool → OpusRepacketizer → List ℕ → List ℕ → Adding
-added sd rp p store =
-    cond (sound rp)
-    (cond (ltb (length store) leastStore) (noAdd BadArg rp store) (addPacket sd rp p store))
-    (noAdd InvalidState rp store)
+added sd rp p store = leavesAdd rp p store (adds sd rp p (length store))
