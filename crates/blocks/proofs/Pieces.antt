@@ -66,7 +66,15 @@ copied-under d at s from i m r fits =
     let u = part s (from + i + m) r in
     let e : length p ≡ i = length-part s from i (omega arith) in
     let a : at + length p ≡ at + i = omega arith in
-    rw (part-append s from i (m + r), part-append s from i m, part-append s (from + i) m r, sets-append (sets d (at + i) (q ++ u)) at p q, sets-before-sets d at p (at + i) (q ++ u) a, sets-append d at p (q ++ u), e)
+    rw (
+      part-append s from i (m + r),
+      part-append s from i m,
+      part-append s (from + i) m r,
+      sets-append (sets d (at + i) (q ++ u)) at p q,
+      sets-before-sets d at p (at + i) (q ++ u) a,
+      sets-append d at p (q ++ u),
+      e,
+    )
     (sets-again (sets d at p) (at + i) q u)
 
 -- all but the first i of n elements are copied: a piece of the first k ends among them, or right before them

@@ -8,7 +8,8 @@ use native.Mathlib.Nat.{add-zero, zero-add, add-suc, suc-add, not-suc-le-zero, s
 use native.Mathlib.Numerals.{add-one}
 use native.Mathlib.Omega.{arith}
 use lib.ListN.{length, take, drop, getD, set, replicate, length-take, length-drop, length-set, length-replicate, replicate-append-replicate}
-use lib.Seq.{sets, sets-eq, take-append-seam, drop-append-seam, take-suc, getD-set-same, getD-set-other, getD-drop, set-comm, set-getD, set-set, take-add, drop-drop, drop-set-lt, take-nil}
+use lib.Seq.{sets, sets-eq, take-append-seam, drop-append-seam, take-suc, take-add, take-nil, drop-drop, drop-set-lt}
+use lib.Seq.{getD-set-same, getD-set-other, getD-drop, set-comm, set-getD, set-set}
 use Rattle.blocks.specs.Blocks.{part, moved, filled, copied}
 
 -- two runs, one after the other, are one run

@@ -58,4 +58,5 @@ more-apart c r from rest a b (inr m) (inr m′) k p q = rest a b m m′ k p q
 pub apart : (s : List ℕ) (at : ℕ) → at ≤ length s → Disjoint (readings s at)
 apart s =
     reading-induction s (λ at r. Disjoint r) (λ at h z. one-apart (nextRecord s at))
-    (λ at h f. more-apart (nextRecord s at) (readings s (behind (nextRecord s at))) (λ b m. among-is s (behind (nextRecord s at)) b (next-within s at h f) m .from))
+    (λ at h f. more-apart (nextRecord s at) (readings s (behind (nextRecord s at)))
+    (λ b m. among-is s (behind (nextRecord s at)) b (next-within s at h f) m .from))

@@ -30,7 +30,8 @@ pub by-turn : {P : Type 0} (s : List ℕ) (at room : ℕ) → (room < lineMost �
     → (lineMost ≤ room → (nextRecord s at .length ≡ 0 → ⊥) → P) → P
 by-turn s at room f g h =
     by-test (ltb room lineMost) (λ t. f (ltb-true room lineMost t))
-    (λ t. by-test (eqb (nextRecord s at .length) 0) (λ u. g (ltb-false room lineMost t) (eqb-true (nextRecord s at .length) 0 u)) (λ u. h (ltb-false room lineMost t) (eqb-false (nextRecord s at .length) 0 u)))
+    (λ t. by-test (eqb (nextRecord s at .length) 0) (λ u. g (ltb-false room lineMost t) (eqb-true (nextRecord s at .length) 0 u))
+    (λ u. h (ltb-false room lineMost t) (eqb-false (nextRecord s at .length) 0 u)))
 
 -- ---- what the lines from a place on are
 pub lines-full : (most : ℕ) (s : List ℕ) (at room : ℕ) → room < lineMost → linesIn most s at room ≡ stop at

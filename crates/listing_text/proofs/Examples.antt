@@ -24,7 +24,8 @@ example =
     102 ∷ 114 ∷ 97 ∷ 109 ∷ 101 ∷ 32 ∷ 49 ∷ 32 ∷ 97 ∷ 116 ∷ 32 ∷ 51 ∷ 32 ∷ 108 ∷ 101 ∷ 110 ∷ 103 ∷ 116 ∷ 104 ∷ 32 ∷ 49 ∷ 10 ∷ []
 
 pub example-listing : listing (3 ∷ 2 ∷ 170 ∷ 187 ∷ []) ≡ example
-unfolding example listing listed packetText times sizes line frameLines frameLine decimal places read compact header duration samples tocLabel countLabel timeLabel payloadLabel packetLabel compactLabel frameLabel atLabel lengthLabel
+unfolding example listing listed packetText times sizes line frameLines frameLine decimal places read compact header duration samples
+    tocLabel countLabel timeLabel payloadLabel packetLabel compactLabel frameLabel atLabel lengthLabel
 example-listing = refl
 
 -- two frames that were not sent last as long
@@ -40,5 +41,6 @@ silence =
     102 ∷ 114 ∷ 97 ∷ 109 ∷ 101 ∷ 32 ∷ 49 ∷ 32 ∷ 97 ∷ 116 ∷ 32 ∷ 50 ∷ 32 ∷ 108 ∷ 101 ∷ 110 ∷ 103 ∷ 116 ∷ 104 ∷ 32 ∷ 48 ∷ 10 ∷ []
 
 pub silence-takes-time : listing (3 ∷ 2 ∷ []) ≡ silence
-unfolding silence listing listed packetText times sizes line frameLines frameLine decimal places read compact header duration samples tocLabel countLabel timeLabel payloadLabel packetLabel compactLabel frameLabel atLabel lengthLabel
+unfolding silence listing listed packetText times sizes line frameLines frameLine decimal places read compact header duration samples
+    tocLabel countLabel timeLabel payloadLabel packetLabel compactLabel frameLabel atLabel lengthLabel
 silence-takes-time = refl

@@ -27,7 +27,12 @@ lines-most : (i at : ℕ) (ns : List ℕ) → i + length ns ≤ 100000 → at + 
 unfolding frameLines
 lines-most i at [] h k = omega arith
 lines-most i at (n ∷ ns) h k =
-    omega (arith, length-append (frameLine i at n) (frameLines (suc i) (at + n) ns), frame-most i at n (omega arith) (omega arith) (omega arith), lines-most (suc i) (at + n) ns (omega arith) (omega arith))
+    omega (
+      arith,
+      length-append (frameLine i at n) (frameLines (suc i) (at + n) ns),
+      frame-most i at n (omega arith) (omega arith) (omega arith),
+      lines-most (suc i) (at + n) ns (omega arith) (omega arith),
+    )
 
 times-most : (toc : ℕ) (ns : List ℕ) → toc < 100000 → length ns ≤ 48 → time toc (length ns) < 100000 → length (times toc ns) ≤ 33
 unfolding times tocLabel countLabel timeLabel

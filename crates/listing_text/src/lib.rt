@@ -103,8 +103,11 @@ fn put_packet(out: &mut [u8], toc: u8, ns: &[u16], first: usize, taken: usize) -
     requires some { ⌜ (1 ≤ length (now ns)) × (length (now ns) ≤ 48) × (longest (now ns) ≤ mostBytes) ⌝ }
     requires places { ⌜ first + total (now ns) ≤ 65535 ⌝ }
     requires room { ⌜ length (packetText toc (now ns) first taken (compactBytes (length (now ns)) (sumsOf (now ns)) false)) ≤ length (now out) ⌝ }
-    ensures bytes { λ _. ⌜ now (out .exit) ≡ sets (now (out .entry)) 0 (packetText toc (now (ns .entry)) first taken (compactBytes (length (now (ns .entry))) (sumsOf (now (ns .entry))) false)) ⌝ }
-    ensures next { λ r. ⌜ r ≡ length (packetText toc (now (ns .entry)) first taken (compactBytes (length (now (ns .entry))) (sumsOf (now (ns .entry))) false)) ⌝ }
+    ensures bytes { λ _. ⌜ now (out .exit)
+        ≡ sets (now (out .entry)) 0
+        (packetText toc (now (ns .entry)) first taken (compactBytes (length (now (ns .entry))) (sumsOf (now (ns .entry))) false)) ⌝ }
+    ensures next { λ r. ⌜ r
+        ≡ length (packetText toc (now (ns .entry)) first taken (compactBytes (length (now (ns .entry))) (sumsOf (now (ns .entry))) false)) ⌝ }
 {
     let small = compact_length(ns);
     let mut at = put_times(out, toc, ns);

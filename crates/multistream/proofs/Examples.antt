@@ -19,5 +19,6 @@ use Rattle.multistream.specs.Unpad.{unpadStreams, streamsUnpadded}
 use Rattle.multistream.specs.Cases.{allCases}
 
 pub all-cases : map (λ (c : Case). c .gives) allCases ≡ map (λ (c : Case). c .says) allCases
-unfolding ruleRefusal parsed read duration lengthField encodeSize header compact full filling lengthsOf padPacket padded unpadPacket unpadded padStreams streamsPadded unpadStreams streamsUnpadded
+unfolding ruleRefusal parsed read duration lengthField encodeSize header compact full filling lengthsOf
+    padPacket padded unpadPacket unpadded padStreams streamsPadded unpadStreams streamsUnpadded
 all-cases = refl

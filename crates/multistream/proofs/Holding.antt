@@ -97,13 +97,19 @@ pub repack-holds : (k : ℕ) (p : List ℕ) → Bytes p → (xs : List Stream) �
     → (q : List ℕ) × (repackStreams k p ≡ repacked q) × (readStreams k q ≡ streams xs)
 repack-holds zero p bytes xs e =
     let next : List ℕ → Streams = λ t. streams [] in
-    let h = held false next p xs e in
-    (_, repacks false next p bytes xs h (λ t. repacked []) [] refl, exchanged false next p bytes xs h (compact-of (was false next p bytes xs h)) [] refl (h .rest))
+    let h = held false next p xs e in (
+      _,
+      repacks false next p bytes xs h (λ t. repacked []) [] refl,
+      exchanged false next p bytes xs h (compact-of (was false next p bytes xs h)) [] refl (h .rest),
+    )
 repack-holds (suc k) p bytes xs e =
     let next = readStreams k in
     let h = held true next p xs e in
-    let i = repack-holds k (drop (h .taken) p) (bytes-drop (h .taken) p bytes) (h .others) (h .rest) in
-    (_, repacks true next p bytes xs h (repackStreams k) (i .0) (i .1), exchanged true next p bytes xs h (compact-of (was true next p bytes xs h)) (i .0) tt (i .2))
+    let i = repack-holds k (drop (h .taken) p) (bytes-drop (h .taken) p bytes) (h .others) (h .rest) in (
+      _,
+      repacks true next p bytes xs h (repackStreams k) (i .0) (i .1),
+      exchanged true next p bytes xs h (compact-of (was true next p bytes xs h)) (i .0) tt (i .2),
+    )
 
 -- ---- the last stream
 -- it is at a place behind the others, and anything that reads as it may take its place

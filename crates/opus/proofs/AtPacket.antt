@@ -27,7 +27,8 @@ use Rattle.opus_toc.proofs.Samples.{lasts-at}
 use Rattle.opus_format.specs.Frames.{total}
 use Rattle.opus_defines.specs.declared.Rule.{Rule}
 use Rattle.opus_defines.specs.declared.Rule.the-variants.{R1, R2, R3, R4, R5, R6, R7}
-use Rattle.opus_format.specs.Reading.{Front, broken, front, readFields, behindFields, equal, readPadding, frames3, sizeRule, lasts, Reading, refused, accept, behindPadding, read3, readCode, read}
+use Rattle.opus_format.specs.Reading.{Front, broken, front, readFields, behindFields, equal, readPadding, frames3, sizeRule, lasts}
+use Rattle.opus_format.specs.Reading.{Reading, refused, accept, behindPadding, read3, readCode, read}
 use Rattle.opus.specs.Answers.{noPacket, packetOf, parsed, answerOf}
 use Rattle.opus_parts.specs.Parts.{framesAt, framesLent, FramesRead, endOf, paddingAt}
 use Rattle.opus.specs.Heads.{noHead, headAt}
@@ -139,7 +140,10 @@ module _ (sd : Bool) (d : List ℕ) (count : ℕ) where
 
       pub body-read : (h : PacketHead) → h ≡ headAt (getD d 0 0) count (2 + next) pad f → answerOf h l ≡ packetOf (body sd d count)
       unfolding inner
-      body-read h e = rw (e, reads) (answer-of inner (length d) (getD d 0 0) count (2 + next) pad (frames3 sd (getD d 1 0 / 128 % 2) count inner) (frames-within inner count sd (getD d 1 0 / 128 % 2) one) all-bytes f l g)
+      body-read h e =
+          rw (e, reads)
+          (answer-of inner (length d) (getD d 0 0) count (2 + next) pad (frames3 sd (getD d 1 0 / 128 % 2) count inner)
+          (frames-within inner count sd (getD d 1 0 / 128 % 2) one) all-bytes f l g)
 
 -- ---- code 3
 -- a frame is at least 2.5 ms

@@ -38,7 +38,9 @@ module _ (sd : Bool) (p : List ℕ) where
   module _ (r : Packet) (e : r ≡ parsed sd p) where
     pub parsed-accepted : r .verdict ≡ Accepted → Read sd p r
     unfolding parsed
-    parsed-accepted v = by-test (ltb 65535 (length p)) (λ t. never (let x = rw t at e in cc)) (λ t. go (ltb-false 65535 (length p) t) (rw t at e) (read sd p) refl)
+    parsed-accepted v =
+        by-test (ltb 65535 (length p)) (λ t. never (let x = rw t at e in cc))
+        (λ t. go (ltb-false 65535 (length p) t) (rw t at e) (read sd p) refl)
       where
         go : length p ≤ 65535 → r ≡ packetOf (read sd p) → (x : Reading) → read sd p ≡ x → Read sd p r
         go h f (refused rule) q = never (let x = rw q at f in cc)

@@ -70,8 +70,19 @@ code3-read sd six v p count {chain} {pad} s u ns hv l d h e =
     let long : length (chain ++ (s ++ u)) ≡ length (chain ++ s) + length (take k u) + pad =
     omega (arith, h .enough, length-append chain (s ++ u), length-append chain s) in
     toc-read sd six 3 (countByte v p count ∷ ((chain ++ s) ++ u)) (omega arith)
-    ∙ rw (same, byte-count v p count hv hp hc, byte-unequal v p count hv hp hc, byte-padded v p count hv hp hc, lasts-passes l, append-assoc chain s u, padding-read d (s ++ u), le-ltb (length (s ++ u)) pad fits, body)
-    (accept-read (suc (suc (length (chain ++ (s ++ u))))) toc pad ns (take k u) (suc (suc (length (chain ++ s)))) (e (take k u) (holds-part sd (total ns) pad u h)) (omega arith))
+    ∙ rw (
+      same,
+      byte-count v p count hv hp hc,
+      byte-unequal v p count hv hp hc,
+      byte-padded v p count hv hp hc,
+      lasts-passes l,
+      append-assoc chain s u,
+      padding-read d (s ++ u),
+      le-ltb (length (s ++ u)) pad fits,
+      body,
+    )
+    (accept-read (suc (suc (length (chain ++ (s ++ u))))) toc pad ns (take k u) (suc (suc (length (chain ++ s))))
+    (e (take k u) (holds-part sd (total ns) pad u h)) (omega arith))
 
 -- ---- headers
 -- what a header says is read, with any bytes behind it that hold frames and padding

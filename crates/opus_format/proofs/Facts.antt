@@ -59,7 +59,11 @@ facts sd p toc ns first taken bytes r =
     let byte : toc < 256 = omega (arith, w .toc-is, bytes .byte 0) in
     let l : Lasts (upperSix toc) (length ns) = rw (w .lengths-are) at (layout-lasts (q .layout)) in
     let sum : total ns ≡ length (joined frames) = sym (ap total (w .lengths-are)) ∙ total-lengths frames in
-    let parts : taken ≡ length (q .head) + (length (joined frames) + length (q .padding)) = sym (length-take-le taken p (w .within)) ∙ (ap length (q .bytes) ∙ (length-append (q .head) (joined frames ++ q .padding) ∙ ap (λ (n : ℕ). length (q .head) + n) (length-append (joined frames) (q .padding)))) in
+    let parts : taken ≡ length (q .head) + (length (joined frames) + length (q .padding)) =
+    sym (length-take-le taken p (w .within))
+    ∙ (ap length (q .bytes)
+    ∙ (length-append (q .head) (joined frames ++ q .padding)
+    ∙ ap (λ (n : ℕ). length (q .head) + n) (length-append (joined frames) (q .padding)))) in
     let limit = lasts-at 48000 refl (length ns) (configuration toc) (omega arith) in
     record {
       byte = byte;

@@ -186,7 +186,8 @@ module _ (sd : Bool) (toc toc′ : ℕ) (ns : List ℕ) (first taken : ℕ) wher
       let long : length q ≡ pad = omega (arith, length-drop k u) in
       rw split at
       (accept-laid (c ∷ a) s q (frames3 sd (c / 128 % 2) (c % 64) s)
-      (λ t f. rw (toc-whole toc 3 three, byte-whole c byte) at (body3 sd (upperSix toc) (c / 64 % 2) (c % 64) (length q) a s ns t l (rw long d) (bytes-take k u bytes) (c / 128 % 2) (omega arith) f))
+      (λ t f. rw (toc-whole toc 3 three, byte-whole c byte) at
+      (body3 sd (upperSix toc) (c / 64 % 2) (c % 64) (length q) a s ns t l (rw long d) (bytes-take k u bytes) (c / 128 % 2) (omega arith) f))
       (rw (split, long) e))
 
   read3-laid : (s : List ℕ) → Bytes s → toc % 4 ≡ 3 → read3 sd (suc (length s)) toc s ≡ accepted toc′ ns first taken → Laid sd (toc ∷ s) toc′ ns first taken

@@ -105,7 +105,14 @@ module _ (sd : Bool) (six : ℕ) (frames : List (List ℕ)) where
   full-compact =
       let ns = lengths frames in
       by-test (ltb (length ns) 3)
-      (λ e. rw (e, append-nil, length-append (fullHeader sd six ns 0) (joined frames), length-append (headerOf sd six ns Short) (joined frames), length-header sd (frontOf six (length ns) (same ns) Short) ns, length-header sd (frontOf six (length ns) (same ns) (Full 0)) ns) (omega arith))
+      (λ e. rw (
+        e,
+        append-nil,
+        length-append (fullHeader sd six ns 0) (joined frames),
+        length-append (headerOf sd six ns Short) (joined frames),
+        length-header sd (frontOf six (length ns) (same ns) Short) ns,
+        length-header sd (frontOf six (length ns) (same ns) (Full 0)) ns,
+      ) (omega arith))
       (λ e. rw (e, append-nil) (omega arith))
 
   pub filling-formed : (m : ℕ)

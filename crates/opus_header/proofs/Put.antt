@@ -146,6 +146,15 @@ module _ {l : List ℕ} {six : ℕ} {ns : List ℕ} {form : Form} {m : Sums} {d 
       put-own f g =
           let all = front six ns form m measured ++ sizes ns in
           let field = lengthField (m .last) in (
-            rw (whole six ns form m measured sd, own, ← append-assoc (front six ns form m measured) (sizes ns) field, sets-append l 0 all field, zero-add, ← k .bytes, length-append, ← k .place) f,
+            rw (
+              whole six ns form m measured sd,
+              own,
+              ← append-assoc (front six ns form m measured) (sizes ns) field,
+              sets-append l 0 all field,
+              zero-add,
+              ← k .bytes,
+              length-append,
+              ← k .place,
+            ) f,
             rw (length-whole six ns form m measured sd, own) (omega arith),
           )

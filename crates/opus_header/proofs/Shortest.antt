@@ -50,7 +50,12 @@ module _ (sd : Bool) (six v count : ℕ) (fields : List ℕ) (n : ℕ) (ns : Lis
       go : {p : ℕ} {chain : List ℕ} {pad : ℕ} → Padding p chain pad → Best sd six (code3 sd six v p count chain fields n) ns pad
       go unpadded = inl (sym e, refl)
       go (padded more ends h) =
-          inr (omega (arith, ap length e, length-append (replicate more 255 ++ (ends ∷ [])) (fields ++ ownLength sd n), length-append (replicate more 255) (ends ∷ [])))
+          inr (omega (
+            arith,
+            ap length e,
+            length-append (replicate more 255 ++ (ends ∷ [])) (fields ++ ownLength sd n),
+            length-append (replicate more 255) (ends ∷ []),
+          ))
 
   by-short : length (sizes ns) ≤ length fields → ltb (length ns) 3 ≡ true → Best sd six head ns pad
   by-short h e = rw e (inr (rw (length-header, ends) (omega (arith, length-head))))

@@ -147,7 +147,11 @@ module _ (s : List ℕ) (count : ℕ) where
       → Within (length s) count (lastLength sd ns (drop at s))
   last-within false ns at c h =
       cond-elim (Within (length s) count) (ltb mostBytes (length (drop at s) - total ns)) _ _ (λ e. tt)
-      (λ e. (omega (arith, length-drop at s), omega (arith, total-snoc ns (length (drop at s) - total ns)), omega (arith, length-append ns ((length (drop at s) - total ns) ∷ []))))
+      (λ e. (
+        omega (arith, length-drop at s),
+        omega (arith, total-snoc ns (length (drop at s) - total ns)),
+        omega (arith, length-append ns ((length (drop at s) - total ns) ∷ [])),
+      ))
   last-within true ns at c h =
       from-field (ownLast ns) at tt
       (λ n t l.

@@ -55,8 +55,11 @@ fn rewrite(
     requires few { ⌜ missing form ≤ 65535 ⌝ }
     requires block { ⌜ first + total (now ns) ≤ length (now «data») ⌝ }
     requires room { ⌜ length (formPacket «self_delimited» (upperSix toc) (now ns) form (part (now «data») first (total (now ns)))) ≤ length (now «data») ⌝ }
-    ensures bytes { λ _. ⌜ now («data» .exit) ≡ sets (now («data» .entry)) 0 (formPacket «self_delimited» (upperSix toc) (now (ns .entry)) form (part (now («data» .entry)) first (total (now (ns .entry))))) ⌝ }
-    ensures next { λ r. ⌜ r ≡ length (formPacket «self_delimited» (upperSix toc) (now (ns .entry)) form (part (now («data» .entry)) first (total (now (ns .entry))))) ⌝ }
+    ensures bytes { λ _. ⌜ now («data» .exit)
+        ≡ sets (now («data» .entry)) 0
+        (formPacket «self_delimited» (upperSix toc) (now (ns .entry)) form (part (now («data» .entry)) first (total (now (ns .entry))))) ⌝ }
+    ensures next { λ r. ⌜ r
+        ≡ length (formPacket «self_delimited» (upperSix toc) (now (ns .entry)) form (part (now («data» .entry)) first (total (now (ns .entry))))) ⌝ }
 {
     let total = m.total;
     let at = opus_header::header_bytes(m, form, self_delimited);
@@ -71,8 +74,10 @@ fn rewrite(
 fn pad_frames(data: &mut [u8], toc: u8, ns: &[u16], first: usize, new_len: usize)
     requires some { ⌜ (1 ≤ length (now ns)) × (length (now ns) ≤ 48) × (longest (now ns) ≤ mostBytes) ⌝ }
     requires block { ⌜ first + total (now ns) ≤ length (now «data») ⌝ }
-    requires room { ⌜ (length (compactHeader false (upperSix toc) (now ns)) + total (now ns) ≤ «new_len») × («new_len» ≤ length (now «data»)) × («new_len» ≤ 65535) ⌝ }
-    ensures { λ _. ⌜ now («data» .exit) ≡ sets (now («data» .entry)) 0 (filling false (upperSix toc) (cut (now (ns .entry)) (drop first (now («data» .entry)))) «new_len») ⌝ }
+    requires room { ⌜ (length (compactHeader false (upperSix toc) (now ns)) + total (now ns) ≤ «new_len»)
+        × («new_len» ≤ length (now «data»)) × («new_len» ≤ 65535) ⌝ }
+    ensures { λ _. ⌜ now («data» .exit)
+        ≡ sets (now («data» .entry)) 0 (filling false (upperSix toc) (cut (now (ns .entry)) (drop first (now («data» .entry)))) «new_len») ⌝ }
 {
     let m = opus_header::sums_of(ns);
     let need = opus_header::compact_bytes(ns.len(), m, false);

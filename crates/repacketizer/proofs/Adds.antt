@@ -34,7 +34,8 @@ use Rattle.repacketizer.specs.declared.OpusRepacketizer.{OpusRepacketize
 use Rattle.repacketizer.specs.declared.Head.{Head}
 use Rattle.repacketizer.specs.declared.AddedHead.{AddedHead}
 use Rattle.repacketizer.specs.Collector.{heldLengths, leastStore, sound}
-use Rattle.repacketizer.specs.Adding.{Adding, noAdd, goesWith, withFrames, Addition, refusal, takes, leavesAdd, readAdds, adds, addBlock, addPacket, added}
+use Rattle.repacketizer.specs.Adding.{Adding, noAdd, goesWith, withFrames, readAdds, adds, addBlock, addPacket, added}
+use Rattle.repacketizer.specs.Adding.{Addition, refusal, takes, leavesAdd}
 use Rattle.repacketizer.specs.Parts.{collectorOf, refusedHead, moreFrames, addedOf}
 use Rattle.opus_format.proofs.Lengths.{total-most}
 use Rattle.repacketizer.proofs.Held.{holding}
@@ -55,7 +56,10 @@ module _ (rp : OpusRepacketizer) (toc n : ℕ) where
     goes-timed : sound rp ≡ true → goesWith rp toc n ≡ true → Timed (rp .toc) (rp .«nb_frames» + n) (rp .framesize .0)
     goes-timed s g =
         let t = rw (ne-eqb (rp .«nb_frames») 0 z) at g in
-        record { size = sound-full rp z s .timed .size; time = both-right (eqb (upperSix toc) (upperSix (rp .toc))) (leb ((rp .«nb_frames» + n) * rp .framesize .0) 960) t }
+        record {
+          size = sound-full rp z s .timed .size;
+          time = both-right (eqb (upperSix toc) (upperSix (rp .toc))) (leb ((rp .«nb_frames» + n) * rp .framesize .0) 960) t;
+        }
 
 -- ---- those held and the new ones
 module _ (rp : OpusRepacketizer) (toc : ℕ) (ns : List ℕ) (s : sound rp ≡ true) (g : goesWith rp toc (length ns) ≡ true) where
@@ -105,12 +109,12 @@ module _ (rp : OpusRepacketizer) (toc : ℕ) (ns p : List ℕ) (first : ℕ) (st
   block-added g = rw g
 
 -- as the code makes it, with the places that it found
-pub block-as : (h : Head) (len : List ℕ) (toc : ℕ) (ns p : List ℕ) (first : ℕ) (store : List ℕ) → goesWith (collectorOf h len) toc (length ns) ≡ true
-    → (at n : ℕ) (r : AddedHead) (all left : List ℕ)
-    → at ≡ total (heldLengths (collectorOf h len)) → n ≡ total ns → r ≡ moreFrames h toc (length ns) → all ≡ sets len (h .«nb_frames») ns → left ≡ copied
-    store at p first n
-    → h .«nb_frames» + length ns ≤ 48 → (addedOf r all ≡ addBlock (collectorOf h len) toc ns p first store .answer) ×
-    ((left ≡ addBlock (collectorOf h len) toc ns p first store .store) × (r .count < 65536))
+pub block-as : (h : Head) (len : List ℕ) (toc : ℕ) (ns p : List ℕ) (first : ℕ) (store : List ℕ)
+    → let rp = collectorOf h len in
+    goesWith rp toc (length ns) ≡ true → (at n : ℕ) (r : AddedHead) (all left : List ℕ) → at ≡ total (heldLengths rp) → n ≡ total ns
+    → r ≡ moreFrames h toc (length ns) → all ≡ sets len (h .«nb_frames») ns → left ≡ copied store at p first n → h .«nb_frames» + length ns ≤ 48
+    → let block = addBlock rp toc ns p first store in
+    (addedOf r all ≡ block .answer) × ((left ≡ block .store) × (r .count < 65536))
 block-as h len toc ns p first store g at n r all left a b w l c f =
     rw (block-added (collectorOf h len) toc ns p first store g, ← a, ← b, w, l) (refl, (c, omega arith))
 

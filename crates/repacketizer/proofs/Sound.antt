@@ -75,7 +75,10 @@ module _ (rp : OpusRepacketizer) (z : rp .«nb_frames» ≡ 0 → ⊥) where
       let all = sym sound-is ∙ s in
       let rest = both-right size (time && small) all in
       record {
-        timed = record { size = eqb-true (rp .framesize .0) (samples 8000 (configuration (rp .toc))) (both-left size (time && small) all); time = both-left time small rest };
+        timed = record {
+          size = eqb-true (rp .framesize .0) (samples 8000 (configuration (rp .toc))) (both-left size (time && small) all);
+          time = both-left time small rest;
+        };
         small = leb-true (longest (heldLengths rp)) mostBytes (both-right time small rest);
       }
 

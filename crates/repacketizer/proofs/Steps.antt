@@ -55,7 +55,9 @@ module _ (sd : Bool) (s : State) (p : List ℕ) (r : Ready s) (b : Bytes p) (toc
       record {
         byte = cond-elim (λ (n : ℕ). n < 256) (eqb (s .rp .«nb_frames») 0) toc (s .rp .toc) (λ e. read-facts .byte) (λ e. r .byte);
         lengths48 = length-sets (s .rp .len) (s .rp .«nb_frames») ns ∙ r .lengths48;
-        soundly = full-sound (withFrames (s .rp) toc ns) (record { timed = with-timed (s .rp) toc ns (r .soundly) g (read-facts .byte) (read-facts .lasts); small = small });
+        soundly =
+            full-sound (withFrames (s .rp) toc ns)
+            (record { timed = with-timed (s .rp) toc ns (r .soundly) g (read-facts .byte) (read-facts .lasts); small = small });
         roomy = omega (arith, length-sets (s .store) (total (heldLengths (s .rp))) (part p first (total ns)), r .roomy);
       }
 

@@ -80,7 +80,10 @@ module _ (s : State) (r : Ready s) (begin end : ℕ) (some : begin < end) (withi
 
 -- 6. The frames held, cut into consecutive pieces that are not empty, each written in ordinary form and added in order to an empty
 -- collector, are held again, with the same upper six TOC bits.
-pub cuts-give-the-frames-again : (s : State) → Ready s → Bytes (s .store) → (pieces : List (List (List ℕ))) → Nonempty pieces → together pieces ≡ held (s .rp) (s .store) → 1 ≤ length pieces → (store : List ℕ) → leastStore ≤ length store → (held (afterAdds false (start store) (map (compact false (upperSix (s .rp .toc))) pieces) .rp) (afterAdds false (start store) (map (compact false (upperSix (s .rp .toc))) pieces) .store) ≡ held (s .rp) (s .store)) × (upperSix (afterAdds false (start store) (map (compact false (upperSix (s .rp .toc))) pieces) .rp .toc) ≡ upperSix (s .rp .toc))
+pub cuts-give-the-frames-again : (s : State) → Ready s → Bytes (s .store) → (pieces : List (List (List ℕ))) → Nonempty pieces
+    → together pieces ≡ held (s .rp) (s .store) → 1 ≤ length pieces → (store : List ℕ) → leastStore ≤ length store
+    → let after = afterAdds false (start store) (map (compact false (upperSix (s .rp .toc))) pieces) in
+    (held (after .rp) (after .store) ≡ held (s .rp) (s .store)) × (upperSix (after .rp .toc) ≡ upperSix (s .rp .toc))
 cuts-give-the-frames-again s r b pieces n e some store h =
     let again = cuts-held s r false b pieces n e some store h in
     (again .0 .frames, again .0 .same (again .1))

@@ -64,9 +64,11 @@ fn put_frames(
     requires some { ⌜ (1 ≤ length (now ns)) × (length (now ns) ≤ 48) × (longest (now ns) ≤ mostBytes) ⌝ }
     requires block { ⌜ (from + total (now ns) ≤ length (now store)) × (length (now «data») ≤ 65535) ⌝ }
     ensures number { λ r. ⌜ numberOf r
-        ≡ leaves (now («data» .entry)) (output «self_delimited» pad (upperSix toc) (cut (now (ns .entry)) (drop from (now (store .entry)))) (length (now («data» .entry)))) .number ⌝ }
+        ≡ leaves (now («data» .entry))
+        (output «self_delimited» pad (upperSix toc) (cut (now (ns .entry)) (drop from (now (store .entry)))) (length (now («data» .entry)))) .number ⌝ }
     ensures bytes { λ _. ⌜ now («data» .exit)
-        ≡ leaves (now («data» .entry)) (output «self_delimited» pad (upperSix toc) (cut (now (ns .entry)) (drop from (now (store .entry)))) (length (now («data» .entry)))) .bytes ⌝ }
+        ≡ leaves (now («data» .entry))
+        (output «self_delimited» pad (upperSix toc) (cut (now (ns .entry)) (drop from (now (store .entry)))) (length (now («data» .entry)))) .bytes ⌝ }
 {
     let m = opus_header::sums_of(ns);
     let need = opus_header::compact_bytes(ns.len(), m, self_delimited);
@@ -97,9 +99,13 @@ fn out_frames(
     requires collector { ⌜ (length (now len) ≡ 48) × (sound (collectorOf h (now len)) ≡ true) ⌝ }
     requires buffers { ⌜ (leastStore ≤ length (now store)) × (length (now «data») ≤ 65535) ⌝ }
     ensures number { λ r. ⌜ numberOf r
-        ≡ leaves (now («data» .entry)) (outFrames «self_delimited» pad (upperSix (h .toc)) (held (collectorOf h (now (len .entry))) (now (store .entry))) (pos begin) (pos end) (length (now («data» .entry)))) .number ⌝ }
+        ≡ leaves (now («data» .entry))
+        (outFrames «self_delimited» pad (upperSix (h .toc)) (held (collectorOf h (now (len .entry))) (now (store .entry))) (pos begin) (pos end)
+        (length (now («data» .entry)))) .number ⌝ }
     ensures bytes { λ _. ⌜ now («data» .exit)
-        ≡ leaves (now («data» .entry)) (outFrames «self_delimited» pad (upperSix (h .toc)) (held (collectorOf h (now (len .entry))) (now (store .entry))) (pos begin) (pos end) (length (now («data» .entry)))) .bytes ⌝ }
+        ≡ leaves (now («data» .entry))
+        (outFrames «self_delimited» pad (upperSix (h .toc)) (held (collectorOf h (now (len .entry))) (now (store .entry))) (pos begin) (pos end)
+        (length (now («data» .entry)))) .bytes ⌝ }
 {
     let n = wide(h.nb_frames);
     if end <= begin {

@@ -20,8 +20,13 @@ loop-again : tie.Need-loop-again Inv-loop μ-loop
 loop-again c =
     let p = c .before .before .move-piece in
     let l = c .before .before .before .before .before in
-    let a = l .before .before .before .before .before .before .before .args in
-    (omega arith, (moved-next (a .s .now) (a .from) (a .to) (l .loop .i) 32 (l .loop .inv .1 .0) (p .ensures) (omega arith) (omega arith), omega (arith, p .kept .0)))
+    let a = l .before .before .before .before .before .before .before .args in (
+      omega arith,
+      (
+        moved-next (a .s .now) (a .from) (a .to) (l .loop .i) 32 (l .loop .inv .1 .0) (p .ensures) (omega arith) (omega arith),
+        omega (arith, p .kept .0),
+      ),
+    )
 
 returns-2 : tie.Need-returns-2 Inv-loop μ-loop
 returns-2 c =

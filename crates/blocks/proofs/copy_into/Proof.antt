@@ -21,8 +21,14 @@ loop-again c =
     let p = c .before .before .copy-piece in
     let l = c .before .before .before .before .before in
     let i = l .loop .i in
-    let a = l .before .before .before .before .args in
-    (omega arith, (copied-more (a .dst .now) (a .at) (a .src .now) (a .from) i i 32 (i + 32) (l .loop .inv .1 .0) (p .ensures) (omega arith) (omega arith) (omega arith) (omega arith), omega (arith, p .kept .0)))
+    let a = l .before .before .before .before .args in (
+      omega arith,
+      (
+        copied-more (a .dst .now) (a .at) (a .src .now) (a .from) i i 32 (i + 32) (l .loop .inv .1 .0) (p .ensures) (omega arith) (omega arith)
+            (omega arith) (omega arith),
+        omega (arith, p .kept .0),
+      ),
+    )
 
 returns-2 : tie.Need-returns-2 Inv-loop μ-loop
 returns-2 c =

@@ -126,8 +126,11 @@ module _ (t : ℕ) where
       let l = c .before .before .before .before .loop in
       let s = c .before .before .before .before .before .before .before .args .«data» .now in
       let n = c .before .before .packet-length in
-      let f = c .find2 in
-      (omega (arith, f .ensures .0, f .ensures .1), l .inv .1 ∙ record-later s (l .place) (n .result) (n .ensures) (c .before .if1 .left) (omega arith) ∙ record-skip s (l .place + 1) (f .result) (f .ensures .0))
+      let f = c .find2 in (
+        omega (arith, f .ensures .0, f .ensures .1),
+        l .inv .1 ∙ record-later s (l .place) (n .result) (n .ensures) (c .before .if1 .left) (omega arith)
+            ∙ record-skip s (l .place + 1) (f .result) (f .ensures .0),
+      )
 
   seek-mark-returns-2 : seek-mark-lts.Need-returns-2 seek-mark-calls seek-mark-given seek-mark.Post Inv μ-loop
   seek-mark-returns-2 c =

@@ -41,7 +41,9 @@ returns-5 c =
 returns-6 : tie.Need-returns-6
 returns-6 c =
     let a = c .before .before .before .before .before .before .before .before .before .before .before .before .args in
-    cc (length-whole (a .«data» .now) (a .at) (c .before .before .before .before .before .before .before .if3 .left) (c .before .before .before .before .before .if4 .left) (omega arith))
+    cc
+    (length-whole (a .«data» .now) (a .at) (c .before .before .before .before .before .before .before .if3 .left)
+    (c .before .before .before .before .before .if4 .left) (omega arith))
 
 pub packet-length-spec : {M : Type 1} → statement M
 packet-length-spec =

@@ -12,8 +12,10 @@ put-times-requires : tie.Need-put-times-requires
 put-times-requires c κs =
     let k = c .before in
     let s = k .before .before .before in
-    let a = s .args in
-    (s .pre .0 .1, omega (arith, first-room (packet-parts (a .out .now) (a .toc) (a .ns .now) (a .first) (a .taken) (k .compact-length .ensures) (s .pre .1 .1))))
+    let a = s .args in (
+      s .pre .0 .1,
+      omega (arith, first-room (packet-parts (a .out .now) (a .toc) (a .ns .now) (a .first) (a .taken) (k .compact-length .ensures) (s .pre .1 .1))),
+    )
 
 -- what stands behind the first lines, and behind the next
 one : (c : tie.After-put-times)
@@ -44,8 +46,10 @@ put-frames-requires c κs =
     let p = q .before .before .before .before in
     let k = p .before .before in
     let s = k .before .before .before in
-    let a = s .args in
-    (s .pre .1 .0, third-room (packet-parts (a .out .now) (a .toc) (a .ns .now) (a .first) (a .taken) (k .compact-length .ensures) (s .pre .1 .1)) (one p) (two q))
+    let a = s .args in (
+      s .pre .1 .0,
+      third-room (packet-parts (a .out .now) (a .toc) (a .ns .now) (a .first) (a .taken) (k .compact-length .ensures) (s .pre .1 .1)) (one p) (two q),
+    )
 
 returns : tie.Need-returns
 returns c =
@@ -55,7 +59,9 @@ returns c =
     let k = p .before .before in
     let s = k .before .before .before in
     let a = s .args in
-    front-ends (three-laid (packet-parts (a .out .now) (a .toc) (a .ns .now) (a .first) (a .taken) (k .compact-length .ensures) (s .pre .1 .1)) (one p) (two q) (record { bytes = r .ensures .0; place = r .ensures .1 }))
+    front-ends
+    (three-laid (packet-parts (a .out .now) (a .toc) (a .ns .now) (a .first) (a .taken) (k .compact-length .ensures) (s .pre .1 .1)) (one p) (two q)
+    (record { bytes = r .ensures .0; place = r .ensures .1 }))
 
 pub put-packet-spec : {M : Type 1} → statement M
 put-packet-spec =

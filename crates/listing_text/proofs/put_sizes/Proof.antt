@@ -54,7 +54,10 @@ returns c =
     let p = q .before .before .before .before .before in
     let s = p .before .before .before .before in
     let a = s .args in
-    laid-ends (three-laid (sizes-parts (a .out .now) (a .at) (a .first) (a .taken) (a .small) (s .pre)) (one p) (two q) (record { bytes = r .ensures .0; place = r .ensures .1 })) refl
+    laid-ends
+    (three-laid (sizes-parts (a .out .now) (a .at) (a .first) (a .taken) (a .small) (s .pre)) (one p) (two q)
+    (record { bytes = r .ensures .0; place = r .ensures .1 }))
+    refl
 
 pub put-sizes-spec : {M : Type 1} → statement M
 put-sizes-spec =

@@ -59,7 +59,9 @@ returns c =
     let t = p .before .before .before in
     let s = t .before .before .before in
     let a = s .args in
-    front-ends (three-laid (times-parts (a .out .now) (a .toc) (a .ns .now) (t .time-48k .ensures) (s .pre .1)) (one p) (two q) (record { bytes = r .ensures .0; place = r .ensures .1 }))
+    front-ends
+    (three-laid (times-parts (a .out .now) (a .toc) (a .ns .now) (t .time-48k .ensures) (s .pre .1)) (one p) (two q)
+    (record { bytes = r .ensures .0; place = r .ensures .1 }))
 
 pub put-times-spec : {M : Type 1} → statement M
 put-times-spec =

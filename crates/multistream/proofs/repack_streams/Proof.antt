@@ -4,7 +4,8 @@
 use Prim.Native.Nat.{_-_}
 use mathlib.Core.Path.{_∙_}
 use borrow.Author.Needs.{needs}
-use Rattle.multistream.proofs.Repacking.{Repacking, repacking-start, same-size, in-places, repacking-reads, repacking-more, repacking-last, repacking-end}
+use Rattle.multistream.proofs.Repacking.{Repacking, same-size, in-places}
+use Rattle.multistream.proofs.Repacking.{repacking-start, repacking-reads, repacking-more, repacking-last, repacking-end}
 use Rattle.multistream.proofs.repack_streams.Statement.{statement}
 use Rattle.multistream.proofs.repack_streams.Tie as tie
 
@@ -22,8 +23,10 @@ repack-stream-requires c κs =
     let i = c .before in
     let l = i .before .loop in
     let s = i .before .before .before in
-    let a = s .args in
-    (in-places (a .«data» .now) (a .len) (a .k) (s .pre .0) (s .pre .1) (s .pre .2) (l .«data») (l .to) (l .from) (l .i) (l .inv), repacking-reads (a .«data» .now) (a .len) (a .k) (s .pre .0) (s .pre .1) (s .pre .2) (l .«data») (l .to) (l .from) (l .i) (l .inv) (i .loop-test .taken))
+    let a = s .args in (
+      in-places (a .«data» .now) (a .len) (a .k) (s .pre .0) (s .pre .1) (s .pre .2) (l .«data») (l .to) (l .from) (l .i) (l .inv),
+      repacking-reads (a .«data» .now) (a .len) (a .k) (s .pre .0) (s .pre .1) (s .pre .2) (l .«data») (l .to) (l .from) (l .i) (l .inv) (i .loop-test .taken),
+    )
 
 loop-again : tie.Need-loop-again Inv-loop μ-loop
 loop-again c =
@@ -41,8 +44,10 @@ repack-stream-requires-2 c κs =
     let i = c .before in
     let l = i .before .loop in
     let s = i .before .before .before in
-    let a = s .args in
-    (in-places (a .«data» .now) (a .len) (a .k) (s .pre .0) (s .pre .1) (s .pre .2) (l .«data») (l .to) (l .from) (l .i) (l .inv), repacking-last (a .«data» .now) (a .len) (a .k) (s .pre .0) (s .pre .1) (s .pre .2) (l .«data») (l .to) (l .from) (l .i) (l .inv) (i .loop-test .left))
+    let a = s .args in (
+      in-places (a .«data» .now) (a .len) (a .k) (s .pre .0) (s .pre .1) (s .pre .2) (l .«data») (l .to) (l .from) (l .i) (l .inv),
+      repacking-last (a .«data» .now) (a .len) (a .k) (s .pre .0) (s .pre .1) (s .pre .2) (l .«data») (l .to) (l .from) (l .i) (l .inv) (i .loop-test .left),
+    )
 
 same-length : tie.Need-same-length Inv-loop μ-loop
 same-length c =

@@ -22,7 +22,9 @@ returns c =
     ∙ body-unfit (a .self-delimited) (a .«data» .now) (a .count) (sym (b .read-padding .ensures) ∙ c .before .before .enum-told .given .1))
 
 -- the padding lengths and the padding lie within the packet
-room : (c : tie.After-known-told) → 2 + c .before .padding .given .0 .1 .0 + c .before .padding .given .0 .0 ≤ length (c .before .before .before .before .before .before .before .args .«data» .now)
+room : (c : tie.After-known-told)
+    → 2 + c .before .padding .given .0 .1 .0 + c .before .padding .given .0 .0
+    ≤ length (c .before .before .before .before .before .before .before .args .«data» .now)
 room c =
     let b = c .before .before .before in
     let s = b .before .before .before .before in

@@ -44,8 +44,10 @@ middle c =
     let p = c .before .before .before .put-front in
     let a = s .args in
     ⊎-elim
-    (λ w. middle-differ (upperSix (a .toc)) (a .ns .now) (a .form) (a .m) (s .pre .0) (a .«data» .now) (p .ensures .0) (p .ensures .1) (not-true (a .m .same) (w .0 .taken)) (rw (w .6) (w .3 .ensures .0)) (rw (w .7) (w .3 .ensures .1)))
-    (λ w. middle-same (upperSix (a .toc)) (a .ns .now) (a .form) (a .m) (s .pre .0) (a .«data» .now) (rw (w .1) (p .ensures .0)) (rw (w .2) (p .ensures .1)) (not-false (a .m .same) (w .0 .left)))
+    (λ w. middle-differ (upperSix (a .toc)) (a .ns .now) (a .form) (a .m) (s .pre .0) (a .«data» .now) (p .ensures .0) (p .ensures .1)
+    (not-true (a .m .same) (w .0 .taken)) (rw (w .6) (w .3 .ensures .0)) (rw (w .7) (w .3 .ensures .1)))
+    (λ w. middle-same (upperSix (a .toc)) (a .ns .now) (a .form) (a .m) (s .pre .0) (a .«data» .now) (rw (w .1) (p .ensures .0)) (rw (w .2) (p .ensures .1))
+    (not-false (a .m .same) (w .0 .left)))
     (c .if1 .came)
 
 put-size-requires : tie.Need-put-size-requires

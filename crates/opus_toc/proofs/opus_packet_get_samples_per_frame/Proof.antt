@@ -17,7 +17,9 @@ returns c =
     let b = c .before .before .before in
     let a = b .before .before .args in
     let back : toZ w32 (ofZ w32 (c .refusal-number .result)) ≡ c .refusal-number .result = search needs in
-    back ∙ (c .refusal-number .ensures ∙ rate-negative _ (a .rate) (counted (a .rate) (b .before .before .fits .rate) (b .count-of .ensures .0) (c .before .enum-told .given .1)))
+    back
+    ∙ (c .refusal-number .ensures
+    ∙ rate-negative _ (a .rate) (counted (a .rate) (b .before .before .fits .rate) (b .count-of .ensures .0) (c .before .enum-told .given .1)))
 
 returns-2 : tie.Need-returns-2
 returns-2 c =

@@ -1,4 +1,5 @@
--- `opus_toc::samples_48k` meets its contract: each arm names the configurations that have its samples, and one test at all 32 says that the last arm has the rest.
+-- `opus_toc::samples_48k` meets its contract: each arm names the configurations that have its samples, and one test at all 32 says that
+-- the last arm has the rest.
 -- Assumes nothing.
 use Prim.Native.Nat.{ℕ, _/_, _<_}
 use native.Mathlib.Omega.{arith}

@@ -20,7 +20,12 @@ compact-bytes-requires c κs =
 need : (c : tie.After-compact-bytes) → c .compact-bytes .result ≤ c .before .before .before .before .args .new-len
 need c =
     let s = c .before .before .before .before in
-    omega (arith, c .compact-bytes .ensures, s .pre .1 .1 .0, compact-bytes false (upperSix (s .args .toc)) (s .args .ns .now) (c .before .sums-of .result) (c .before .sums-of .ensures))
+    omega (
+      arith,
+      c .compact-bytes .ensures,
+      s .pre .1 .1 .0,
+      compact-bytes false (upperSix (s .args .toc)) (s .args .ns .now) (c .before .sums-of .result) (c .before .sums-of .ensures),
+    )
 
 rewrite-requires : tie.Need-rewrite-requires
 rewrite-requires c κs =
@@ -33,8 +38,11 @@ rewrite-requires c κs =
       (
         s .pre .0,
         (
-          omega
-              (arith, few-missing (length (a .ns .now)) (n .compact-bytes .result) (a .new-len) true (f .form-for .result) (f .form-for .ensures), s .pre .1 .1 .2),
+          omega (
+            arith,
+            few-missing (length (a .ns .now)) (n .compact-bytes .result) (a .new-len) true (f .form-for .result) (f .form-for .ensures),
+            s .pre .1 .1 .2,
+          ),
           (
             s .pre .1 .0,
             padded-room false (upperSix (a .toc)) (a .ns .now) (a .«data» .now) (a .first) (s .pre .1 .0) (m .sums-of .result) (m .sums-of .ensures)

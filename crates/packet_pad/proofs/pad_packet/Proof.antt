@@ -55,7 +55,11 @@ returns-2 c =
     let r = c .before .before .before .read-into in
     let s = c .before .before .before .before .before .before .before in
     let a = s .args in
-    meets (ap (leaves (a .«data» .now)) (pad-refused (a .«data» .now) (a .len) (answerOf (r .result) (r .last .1 .1 .0)) (r .ensures) _ (c .before .v .given .1) (omega (arith, s .pre)) (a .new-len))) refl refl
+    meets
+    (ap (leaves (a .«data» .now))
+    (pad-refused (a .«data» .now) (a .len) (answerOf (r .result) (r .last .1 .1 .0)) (r .ensures) _ (c .before .v .given .1) (omega (arith, s .pre))
+    (a .new-len)))
+    refl refl
 
 pub pad-packet-spec : {M : Type 1} → statement M
 pad-packet-spec =

@@ -65,7 +65,10 @@ returns-2 c =
     let r = c .before .before .before .read-into in
     let s = c .before .before .before .before .before .before .before in
     let a = s .args in
-    meets (ap (leaves (a .«data» .now)) (unpad-refused (a .«data» .now) (a .len) (answerOf (r .result) (r .last .1 .1 .0)) (r .ensures) _ (c .before .v .given .1) (s .pre .1))) refl refl
+    meets
+    (ap (leaves (a .«data» .now))
+    (unpad-refused (a .«data» .now) (a .len) (answerOf (r .result) (r .last .1 .1 .0)) (r .ensures) _ (c .before .v .given .1) (s .pre .1)))
+    refl refl
 
 pub unpad-packet-spec : {M : Type 1} → statement M
 unpad-packet-spec =

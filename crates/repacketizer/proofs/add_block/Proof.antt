@@ -35,7 +35,10 @@ returns : tie.Need-returns
 returns c =
     let g = c .before .before in
     let a = g .before .before .before .before .before .args in
-    refused-as (block-refused (collectorOf (a .h) (a .len .now)) (a .toc) (a .ns .now) (a .«data» .now) (a .first) (a .store .now) (sym (g .goes-with .ensures) ∙ not-true _ (c .before .if1 .taken))) (c .refused-add .ensures)
+    refused-as
+    (block-refused (collectorOf (a .h) (a .len .now)) (a .toc) (a .ns .now) (a .«data» .now) (a .first) (a .store .now)
+    (sym (g .goes-with .ensures) ∙ not-true _ (c .before .if1 .taken)))
+    (c .refused-add .ensures)
 
 -- the frames go with those held
 goes : (c : tie.Else1)

@@ -33,8 +33,11 @@ slice-write-len-2 c =
 loop-again : tie.Need-loop-again Inv-loop μ-loop
 loop-again c =
     let l = c .before .before .loop in
-    let a = c .before .before .before .before .args in
-    (search needs, length-set (l .len) (a .at + l .i) (getD (a .ns .now) (l .i) 0) ∙ l .inv .1, rw (l .inv .2) (sets-more (a .ns .now) (l .i) (omega arith) (set (a .len .now) (a .at) (getD (a .ns .now) 0 0)) (a .at)))
+    let a = c .before .before .before .before .args in (
+      search needs,
+      length-set (l .len) (a .at + l .i) (getD (a .ns .now) (l .i) 0) ∙ l .inv .1,
+      rw (l .inv .2) (sets-more (a .ns .now) (l .i) (omega arith) (set (a .len .now) (a .at) (getD (a .ns .now) 0 0)) (a .at)),
+    )
 
 same-length : tie.Need-same-length Inv-loop μ-loop
 same-length c = c .before .loop .inv .1 ∙ long (c .before .before .before)
@@ -45,7 +48,8 @@ returns c =
     let s = c .before .before .before in
     let a = s .args in
     l .inv .2
-    ∙ (ap (sets (set (a .len .now) (a .at) (getD (a .ns .now) 0 0)) (a .at)) (take-all (l .i) (a .ns .now) (omega arith)) ∙ sets-again (a .len .now) (a .at) (a .ns .now) (s .pre .0))
+    ∙ (ap (sets (set (a .len .now) (a .at) (getD (a .ns .now) 0 0)) (a .at)) (take-all (l .i) (a .ns .now) (omega arith))
+    ∙ sets-again (a .len .now) (a .at) (a .ns .now) (s .pre .0))
 
 pub put-lengths-spec : {M : Type 1} → statement M
 put-lengths-spec =

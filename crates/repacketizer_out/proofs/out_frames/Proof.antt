@@ -28,13 +28,17 @@ holds c = holding (collectorOf (c .args .h) (c .args .len .now)) (byte c) (c .pr
 returns : tie.Need-returns
 returns c =
     let a = c .before .before .before .before .before .args in
-    refused-as BadArg (frames-none (a .self-delimited) (a .pad) (upperSix (a .h .toc)) (held (collectorOf (a .h) (a .len .now)) (a .store .now)) (a .«data» .now) (a .begin) (a .end) (c .if1 .taken))
+    refused-as BadArg
+    (frames-none (a .self-delimited) (a .pad) (upperSix (a .h .toc)) (held (collectorOf (a .h) (a .len .now)) (a .store .now)) (a .«data» .now)
+    (a .begin) (a .end) (c .if1 .taken))
 
 returns-2 : tie.Need-returns-2
 returns-2 c =
     let s = c .before .before .before .before .before .before in
     let a = s .args in
-    refused-as BadArg (held-past (a .self-delimited) (a .pad) (collectorOf (a .h) (a .len .now)) (a .store .now) (a .«data» .now) (holds s) (a .begin) (a .end) (c .before .if1 .left) (omega (arith, c .before .before .wide .ensures .0)))
+    refused-as BadArg
+    (held-past (a .self-delimited) (a .pad) (collectorOf (a .h) (a .len .now)) (a .store .now) (a .«data» .now) (holds s) (a .begin) (a .end)
+    (c .before .if1 .left) (omega (arith, c .before .before .wide .ensures .0)))
 
 -- the range is within the frames held
 within : (c : tie.Else2) → let a = c .before .before .before .before .before .before .args in a .end ≤ a .h .«nb_frames»
@@ -76,7 +80,9 @@ returns-3 c =
     let i = w .before .before .before .before in
     let s = i .before .before .before .before .before .before in
     let a = s .args in
-    meets (held-within (a .self-delimited) (a .pad) (collectorOf (a .h) (a .len .now)) (a .store .now) (a .«data» .now) (holds s) (a .begin) (a .end) (i .before .if1 .left) (within i) (from w))
+    meets
+    (held-within (a .self-delimited) (a .pad) (collectorOf (a .h) (a .len .now)) (a .store .now) (a .«data» .now) (holds s) (a .begin) (a .end)
+    (i .before .if1 .left) (within i) (from w))
     (f .put-frames .ensures .0) (f .put-frames .ensures .1)
 
 pub out-frames-spec : {M : Type 1} → statement M

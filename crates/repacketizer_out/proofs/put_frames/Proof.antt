@@ -26,7 +26,9 @@ returns c =
     (n .before .sums-of .ensures) (n .compact-bytes .ensures) (c .if1 .taken)
 
 -- the header and the frames fit, so they end within the destination
-room : (c : tie.After-form-for) → let s = c .before .before .before .before .before .before .before in length (headerOf (s .args .self-delimited) (upperSix (s .args .toc)) (s .args .ns .now) (c .form-for .result)) + total (s .args .ns .now) ≤ length (s .args .«data» .now)
+room : (c : tie.After-form-for)
+    → let a = c .before .before .before .before .before .before .before .args in
+    length (headerOf (a .self-delimited) (upperSix (a .toc)) (a .ns .now) (c .form-for .result)) + total (a .ns .now) ≤ length (a .«data» .now)
 room c =
     let n = c .before .before in
     let s = n .before .before .before .before .before in

@@ -46,7 +46,9 @@ returns c =
     let q = c .before .before .before .before .before .before .before in
     let p = q .before .before .before .before in
     let s = p .before .before .before .before in
-    front-ends (three-laid (refusal-parts (s .args .out .now) (s .args .number) (s .fits .number) (s .pre)) (one p) (two q) (record { bytes = r .ensures .0; place = r .ensures .1 }))
+    front-ends
+    (three-laid (refusal-parts (s .args .out .now) (s .args .number) (s .fits .number) (s .pre)) (one p) (two q)
+    (record { bytes = r .ensures .0; place = r .ensures .1 }))
 
 pub put-refused-spec : {M : Type 1} → statement M
 put-refused-spec =

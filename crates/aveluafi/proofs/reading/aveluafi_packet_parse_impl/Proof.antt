@@ -14,7 +14,10 @@ cast-t9 c =
     let r = c .before .before .before .read-into in
     let k = c .before .before .before .before .before in
     let a = k .before .args in
-    omega (arith, read-few (a .self-delimited) (a .«data» .now) (r .result) (r .last .1 .1 .0) (record { byte = λ i. k .shared-slice-known .given i .fits }) (r .ensures))
+    omega (
+      arith,
+      read-few (a .self-delimited) (a .«data» .now) (r .result) (r .last .1 .1 .0) (record { byte = λ i. k .shared-slice-known .given i .fits }) (r .ensures),
+    )
 
 returns : tie.Need-returns
 returns c =

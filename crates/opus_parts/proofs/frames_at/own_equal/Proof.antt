@@ -29,15 +29,16 @@ returns-2 : tie.Need-returns-2
 returns-2 c =
     let b = c .before .before .before in
     let a = b .before .before .before .before .args in
-    λ r. each-over (a .s .now) (a .count) r _ _ _ (whole-was _ _ _ _ (sym (b .before .before .size-at .ensures) ∙ b .size .given .1)) (c .before .wide .ensures .0) (c .if1 .taken) _
+    λ r. each-over (a .s .now) (a .count) r _ _ _ (whole-was _ _ _ _ (sym (b .before .before .size-at .ensures) ∙ b .size .given .1))
+    (c .before .wide .ensures .0) (c .if1 .taken) _
 
 returns-3 : tie.Need-returns-3
 returns-3 c =
     let t = c .before .before in
     let b = t .before .before .before in
     let a = b .before .before .before .before .args in
-    λ r. each-read (a .s .now) (a .count) r _ _ _ (whole-was _ _ _ _ (sym (b .before .before .size-at .ensures) ∙ b .size .given .1)) (t .before .wide .ensures .0) _
-    (c .same-lengths .ensures) (t .if1 .left)
+    λ r. each-read (a .s .now) (a .count) r _ _ _ (whole-was _ _ _ _ (sym (b .before .before .size-at .ensures) ∙ b .size .given .1))
+    (t .before .wide .ensures .0) _ (c .same-lengths .ensures) (t .if1 .left)
 
 pub own-equal-spec : {M : Type 1} → statement M
 own-equal-spec =
