@@ -1,9 +1,10 @@
--- Lists of bytes: the empty list, one byte more or less, two lists joined, and parts.
+-- Lists of bytes: the empty list, one byte more or less, two lists joined, parts, and bytes stored.
 -- Assumes nothing.
 use Prim.Native.Nat.{ℕ, zero, suc, _<_}
 use native.Mathlib.Omega.{arith}
 use mathlib.Core.List.{List, [], _∷_, _++_}
-use lib.ListN.{getD, take, drop}
+use lib.ListN.{getD, set, take, drop}
+use lib.Seq.{sets}
 use Rattle.laws.specs.Bytes.{Bytes}
 
 pub bytes-nil : Bytes []
@@ -36,3 +37,12 @@ pub bytes-drop : (n : ℕ) (s : List ℕ) → Bytes s → Bytes (drop n s)
 bytes-drop zero s h = h
 bytes-drop (suc n) [] h = h
 bytes-drop (suc n) (a ∷ s) h = bytes-drop n s (bytes-tail h)
+
+pub bytes-set : (s : List ℕ) (i a : ℕ) → Bytes s → a < 256 → Bytes (set s i a)
+bytes-set [] i a h k = h
+bytes-set (b ∷ s) zero a h k = bytes-cons k (bytes-tail h)
+bytes-set (b ∷ s) (suc i) a h k = bytes-cons (h .byte 0) (bytes-set s i a (bytes-tail h) k)
+
+pub bytes-sets : (s : List ℕ) (at : ℕ) (vs : List ℕ) → Bytes s → Bytes vs → Bytes (sets s at vs)
+bytes-sets s at [] h k = h
+bytes-sets s at (a ∷ vs) h k = bytes-sets (set s at a) (suc at) vs (bytes-set s at a h (k .byte 0)) (bytes-tail k)

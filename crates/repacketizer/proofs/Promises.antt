@@ -4,36 +4,39 @@ use Prim.Native.Nat.{ℕ, _*_, _≤_, _<_}
 use native.Mathlib.Nat.{zero-add}
 use mathlib.Core.Path.{_≡_, refl, sym, _∙_}
 use mathlib.Core.List.{List}
-use mathlib.Core.Bool.{Bool}
+use mathlib.Core.Bool.{Bool, true, false}
 use lib.Dec.{leb}
-use lib.IntN.{pos, negsuc}
+use lib.IntN.{ℤ, pos, negsuc}
 use lib.ListN.{length}
 use Rattle.laws.proofs.Never.{never}
 use Rattle.opus_defines.specs.Numbers.{verdictNumber}
+use Rattle.opus_defines.specs.declared.Rule.{Rule}
 use Rattle.opus_defines.specs.declared.Verdict.{Verdict}
 use Rattle.opus_defines.specs.declared.Verdict.the-variants.{Accepted, Refused}
-use Rattle.opus_toc.specs.Toc.{samples, time}
+use Rattle.opus_defines.proofs.Outcomes.{rule-number}
+use Rattle.opus_toc.specs.Toc.{upperSix, samples, time}
 use Rattle.opus_toc.proofs.Samples.{lasts-at}
-use Rattle.opus_format.specs.Reading.{accepted, read}
+use Rattle.opus_format.specs.Reading.{refused, accepted, read}
 use Rattle.repacketizer.specs.declared.OpusRepacketizer.{OpusRepacketizer}
-use Rattle.repacketizer.specs.Collector.{empty, held, leastStore}
-use Rattle.repacketizer.specs.Adding.{adds, added, addedNumber}
-use Rattle.repacketizer.specs.Runs.{State, Ready, AllBytes, afterAdds, framesAccepted}
-use Rattle.repacketizer.proofs.Adds.{add-empty, refused-keeps}
-use Rattle.repacketizer.proofs.Runs.{empty-ready, runs-ready, runs-held}
+use Rattle.repacketizer.specs.Collector.{held, leastStore, sound}
+use Rattle.repacketizer.specs.Adding.{goesWith, adds, added, addedNumber}
+use Rattle.repacketizer.specs.Runs.{State, Ready, Empty, Arrival, AllBytes, SameSix, afterAdds, framesAccepted}
+use Rattle.repacketizer.proofs.Adds.{block-refused, block-added, add-empty, refused-keeps}
+use Rattle.repacketizer.proofs.Adds.{add-unsound, add-tight, add-sound, add-long, add-refused, add-read}
+use Rattle.repacketizer.proofs.Runs.{empty-ready, empty-held, runs-ready, runs-held, runs-six}
 
--- an empty collector with a store that is long enough
-abbrev pub start : List ℕ → State
-start store = record { rp = empty; store = store }
+-- 1. From any collector that holds nothing, after any list of adds, each in its own form and refused ones included, the collector is sound and
+-- its store long enough; the frames held are those of the accepted packets, in order,
+pub frames-are-kept : (s : State) → Empty s → (l : List Arrival) → AllBytes l
+    → held (afterAdds s l .rp) (afterAdds s l .store) ≡ framesAccepted s l
+frames-are-kept s e l b = runs-held s l (empty-ready s e) b ∙ rw (empty-held s e)
 
--- 1. From an empty collector, after any list of adds, refused ones included, the collector is sound, the store is never too short, and
--- the frames held are those of the accepted packets, in order.
-pub frames-are-kept : (sd : Bool) (store : List ℕ) (ps : List (List ℕ)) → leastStore ≤ length store → AllBytes ps
-    → held (afterAdds sd (start store) ps .rp) (afterAdds sd (start store) ps .store) ≡ framesAccepted sd (start store) ps
-frames-are-kept sd store ps h b = runs-held sd (start store) ps (empty-ready store h) b
+pub collector-stays-sound : (s : State) → Empty s → (l : List Arrival) → AllBytes l → Ready (afterAdds s l)
+collector-stays-sound s e l b = runs-ready s l (empty-ready s e) b
 
-pub collector-stays-sound : (sd : Bool) (store : List ℕ) (ps : List (List ℕ)) → leastStore ≤ length store → AllBytes ps → Ready (afterAdds sd (start store) ps)
-collector-stays-sound sd store ps h b = runs-ready sd (start store) ps (empty-ready store h) b
+-- and the upper six TOC bits of every accepted packet are those of the collector at the end.
+pub six-bits-are-kept : (s : State) (l : List Arrival) → AllBytes l → SameSix (upperSix (afterAdds s l .rp .toc)) s l
+six-bits-are-kept s l b = runs-six s l b
 
 -- 2. An empty collector takes any packet that the reader accepts.
 pub empty-takes-all : (sd : Bool) (rp : OpusRepacketizer) (store p : List ℕ) (toc : ℕ) (ns : List ℕ) (first taken : ℕ) → rp .«nb_frames» ≡ 0
@@ -60,3 +63,36 @@ refused-add-changes-nothing sd rp p store n r = go (added sd rp p store .answer 
         → (added sd rp p store .answer .rp ≡ rp) × (added sd rp p store .store ≡ store)
     go Accepted e r = never (cc)
     go (Refused c) e r = refused-keeps rp p store (adds sd rp p (length store)) e
+
+-- 8. The order of an add's refusals: each fault gives its number, whatever else is wrong behind it.
+module _ (sd : Bool) (rp : OpusRepacketizer) (p store : List ℕ) where
+  abbrev number : ℤ
+  number = addedNumber (added sd rp p store .answer)
+
+  -- an unsound collector, -6,
+  pub add-collector-first : sound rp ≡ false → number ≡ negsuc 5
+  add-collector-first u = rw (add-unsound sd rp p store u)
+
+  module _ (soundly : sound rp ≡ true) where
+    -- then a store of too few bytes, -1,
+    pub add-then-store : length store < leastStore → number ≡ negsuc 0
+    add-then-store h = rw (add-tight sd rp p store soundly h)
+
+    module _ (roomy : leastStore ≤ length store) where
+      -- then a packet of too many bytes, -1,
+      pub add-then-length : 65535 < length p → number ≡ negsuc 0
+      add-then-length h = rw (add-sound sd rp p store soundly roomy, add-long sd rp p store h)
+
+      -- then a packet that cannot be read, -4,
+      pub add-then-packet : (rule : Rule) → length p ≤ 65535 → read sd p ≡ refused rule → number ≡ negsuc 3
+      add-then-packet rule h r = rw (add-sound sd rp p store soundly roomy, add-refused sd rp p store rule h r) (rule-number rule)
+
+      -- then frames that do not go with those held, -4; and there is no other refusal.
+      module _ (toc : ℕ) (ns : List ℕ) (first end : ℕ) (h : length p ≤ 65535) (r : read sd p ≡ accepted toc ns first end) where
+        pub add-then-held : goesWith rp toc (length ns) ≡ false → number ≡ negsuc 3
+        add-then-held g =
+            rw (add-sound sd rp p store soundly roomy, add-read sd rp p store toc ns first end h r, block-refused rp toc ns p first store g)
+
+        pub add-otherwise-takes : goesWith rp toc (length ns) ≡ true → number ≡ pos 0
+        add-otherwise-takes g =
+            rw (add-sound sd rp p store soundly roomy, add-read sd rp p store toc ns first end h r, block-added rp toc ns p first store g)

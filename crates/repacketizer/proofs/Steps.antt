@@ -1,23 +1,34 @@
--- One add: the collector stays sound, and what it holds grows by the frames of an accepted packet.
+-- One add.
+--     add-ready     the collector stays sound
+--     add-held      what it holds grows by the frames of an accepted packet
+--     add-bytes     the store stays bytes
+--     add-six       the upper six TOC bits of what is accepted are those of what is held
 -- Assumes nothing.
 use mathlib.Core.Path.{_≡_, sym, _∙_, refl}
 use mathlib.Core.List.{List, _++_, append-nil}
 use mathlib.Core.Bool.{Bool, true}
-use Prim.Native.Nat.{ℕ, _+_, _≤_, _<_}
+use Prim.Native.Nat.{ℕ, _+_, _*_, _≤_, _<_}
 use native.Mathlib.Omega.{arith}
-use lib.Dec.{eqb}
-use lib.ListN.{length}
+use lib.Dec.{leb, eqb}
+use lib.ListN.{length, getD, drop}
 use lib.Seq.{length-sets}
 use Rattle.laws.specs.Bytes.{Bytes}
-use Rattle.laws.proofs.Never.{cond-elim}
+use borrow.Author.Tests.{eqb-true, eqb-false, ne-eqb}
+use Rattle.laws.proofs.Never.{never, by-test, cond-elim}
+use Rattle.laws.proofs.Every.{both-left}
+use Rattle.laws.proofs.Bytes.{bytes-take, bytes-drop, bytes-sets}
+use Rattle.opus_defines.specs.declared.Verdict.the-variants.{Accepted}
 use Rattle.opus_size.specs.Size.{mostBytes}
 use Rattle.opus_format.specs.Frames.{total, longest}
 use Rattle.opus_format.specs.Reading.{accepted, read, framesOf}
+use Rattle.opus_toc.specs.Toc.{upperSix}
+use Rattle.opus_format.proofs.Sound.{read-spelled}
 use Rattle.opus_format.proofs.Facts.{Facts, facts}
 use Rattle.blocks.specs.Blocks.{part}
 use Rattle.repacketizer.specs.Collector.{held, heldLengths}
 use Rattle.repacketizer.specs.Adding.{Adding, goesWith, withFrames, Addition, refusal, takes, leavesAdd, adds, added}
-use Rattle.repacketizer.specs.Runs.{State, Ready, afterAdd, framesIf}
+use Rattle.repacketizer.specs.declared.OpusRepacketizer.{OpusRepacketizer}
+use Rattle.repacketizer.specs.Runs.{State, Ready, Arrival, adding, afterAdd, framesIf, framesAdded}
 use Rattle.opus_format.proofs.Lengths.{longest-append}
 use Rattle.repacketizer.proofs.Lengths.{take-sets-at, cut-copied}
 use Rattle.repacketizer.proofs.Sound.{full-sound}
@@ -66,26 +77,64 @@ module _ (sd : Bool) (s : State) (p : List ℕ) (r : Ready s) (b : Bytes p) (toc
   taken-held = rw (grown, q) (cut-copied (heldLengths (s .rp)) ns (s .store) p first room (omega (arith, read-facts .block, read-facts .within)))
 
 -- ---- any packet
-pub add-ready : (sd : Bool) (s : State) (p : List ℕ) → Ready s → Bytes p → Ready (afterAdd sd s p)
+pub add-ready : (s : State) (a : Arrival) → Ready s → Bytes (a .packet) → Ready (afterAdd s a)
 unfolding added
-add-ready sd s p r b = go (adds sd (s .rp) p (length (s .store))) refl
+add-ready s a r b = go (adds (a .sd) (s .rp) (a .packet) (length (s .store))) refl
   where
-    go : (x : Addition) → adds sd (s .rp) p (length (s .store)) ≡ x → Ready (stateOf (leavesAdd (s .rp) p (s .store) x))
+    go : (x : Addition) → adds (a .sd) (s .rp) (a .packet) (length (s .store)) ≡ x → Ready (stateOf (leavesAdd (s .rp) (a .packet) (s .store) x))
     go (refusal e) h = r
     go (takes toc ns first) h =
-        let t = took sd (s .rp) p (length (s .store)) toc ns first h in
-        taken-ready sd s p r b toc ns first (t .end) (t .reads) (t .goes)
+        let t = took (a .sd) (s .rp) (a .packet) (length (s .store)) toc ns first h in
+        taken-ready (a .sd) s (a .packet) r b toc ns first (t .end) (t .reads) (t .goes)
 
-pub add-held : (sd : Bool) (s : State) (p : List ℕ) → Ready s → Bytes p
-    → held (afterAdd sd s p .rp) (afterAdd sd s p .store)
-    ≡ held (s .rp) (s .store) ++ framesIf (added sd (s .rp) p (s .store) .answer .verdict) (framesOf p (read sd p))
+pub add-held : (s : State) (a : Arrival) → Ready s → Bytes (a .packet)
+    → held (afterAdd s a .rp) (afterAdd s a .store) ≡ held (s .rp) (s .store) ++ framesAdded s a
 unfolding added
-add-held sd s p r b = go (adds sd (s .rp) p (length (s .store))) refl
+add-held s a r b = go (adds (a .sd) (s .rp) (a .packet) (length (s .store))) refl
   where
-    go : (x : Addition) → adds sd (s .rp) p (length (s .store)) ≡ x
-        → let a = leavesAdd (s .rp) p (s .store) x in
-        held (a .answer .rp) (a .store) ≡ held (s .rp) (s .store) ++ framesIf (a .answer .verdict) (framesOf p (read sd p))
+    go : (x : Addition) → adds (a .sd) (s .rp) (a .packet) (length (s .store)) ≡ x
+        → let left = leavesAdd (s .rp) (a .packet) (s .store) x in
+        held (left .answer .rp) (left .store)
+        ≡ held (s .rp) (s .store) ++ framesIf (left .answer .verdict) (framesOf (a .packet) (read (a .sd) (a .packet)))
     go (refusal e) h = sym (append-nil (held (s .rp) (s .store)))
     go (takes toc ns first) h =
-        let t = took sd (s .rp) p (length (s .store)) toc ns first h in
-        taken-held sd s p r b toc ns first (t .end) (t .reads) (t .goes)
+        let t = took (a .sd) (s .rp) (a .packet) (length (s .store)) toc ns first h in
+        taken-held (a .sd) s (a .packet) r b toc ns first (t .end) (t .reads) (t .goes)
+
+-- the store stays bytes
+pub add-bytes : (s : State) (a : Arrival) → Bytes (s .store) → Bytes (a .packet) → Bytes (afterAdd s a .store)
+unfolding added
+add-bytes s a k b = go (adds (a .sd) (s .rp) (a .packet) (length (s .store)))
+  where
+    go : (x : Addition) → Bytes (leavesAdd (s .rp) (a .packet) (s .store) x .store)
+    go (refusal e) = k
+    go (takes toc ns first) =
+        bytes-sets (s .store) (total (heldLengths (s .rp))) (part (a .packet) first (total ns)) k
+        (bytes-take (total ns) (drop first (a .packet)) (bytes-drop first (a .packet) b))
+
+-- ---- the upper six TOC bits: an accepted packet's are those held behind it; those of a collector that holds frames stay
+pub record Six (s : State) (a : Arrival) (x : Adding) : Type 0 where
+  pub is : x .answer .verdict ≡ Accepted → (upperSix (getD (a .packet) 0 0) ≡ upperSix (x .answer .rp .toc)) × (1 ≤ x .answer .rp .«nb_frames»)
+  pub stays : 1 ≤ s .rp .«nb_frames» → (upperSix (x .answer .rp .toc) ≡ upperSix (s .rp .toc)) × (1 ≤ x .answer .rp .«nb_frames»)
+
+same-six : (rp : OpusRepacketizer) (toc n : ℕ) → (rp .«nb_frames» ≡ 0 → ⊥) → goesWith rp toc n ≡ true → upperSix toc ≡ upperSix (rp .toc)
+same-six rp toc n z g =
+    let t = rw (ne-eqb (rp .«nb_frames») 0 z) at g in
+    eqb-true (upperSix toc) (upperSix (rp .toc)) (both-left (eqb (upperSix toc) (upperSix (rp .toc))) (leb ((rp .«nb_frames» + n) * rp .framesize .0) 960) t)
+
+pub add-six : (s : State) (a : Arrival) → Bytes (a .packet) → Six s a (adding s a)
+unfolding added
+add-six s a b = go (adds (a .sd) (s .rp) (a .packet) (length (s .store))) refl
+  where
+    go : (x : Addition) → adds (a .sd) (s .rp) (a .packet) (length (s .store)) ≡ x → Six s a (leavesAdd (s .rp) (a .packet) (s .store) x)
+    go (refusal e) h = record { is = λ v. never (cc); stays = λ z. (refl, z) }
+    go (takes toc ns first) h =
+        let t = took (a .sd) (s .rp) (a .packet) (length (s .store)) toc ns first h in
+        let first-is = read-spelled (a .sd) (a .packet) toc ns first (t .end) b (t .reads) .toc-is in
+        let some = facts (a .sd) (a .packet) toc ns first (t .end) b (t .reads) .some in
+        record {
+          is = λ v. by-test (eqb (s .rp .«nb_frames») 0)
+              (λ e. (rw (e, ← first-is), omega (arith, some)))
+              (λ e. (rw (e, ← first-is) (same-six (s .rp) toc (length ns) (eqb-false (s .rp .«nb_frames») 0 e) (t .goes)), omega (arith, some)));
+          stays = λ z. (rw (ne-eqb (s .rp .«nb_frames») 0 (λ m. omega (arith, z, m))), omega (arith, some));
+        }

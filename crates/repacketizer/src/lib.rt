@@ -422,7 +422,7 @@ pub fn add(
 }
 
 // Adds a packet in the named delimiting to the collector, whose frames stand in the store.
-pub fn opus_repacketizer_cat_impl(
+fn opus_repacketizer_cat_impl(
     rp: OpusRepacketizer,
     data: &[u8],
     self_delimited: bool,

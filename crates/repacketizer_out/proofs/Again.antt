@@ -1,22 +1,24 @@
 -- Frames in pieces, each written as a packet of its own and added in order, are held together again.
 --     Fine, fine-append     frames of bytes, none too long
---     Holds, piece-held     one piece more is accepted and held
+--     piece-..              one piece more is accepted and held
 --     pieces-held           all pieces
---     cuts-held             pieces of what a collector holds, added to an empty one
+--     cuts-held             pieces of what a collector holds, added to one that holds nothing
+--     outputs-held          the same, of what the output calls left in their destinations
 -- Assumes nothing.
-use Prim.Native.Nat.{ℕ, _+_, _≤_, _<_}
+use Prim.Native.Nat.{ℕ, _+_, _-_, _≤_, _<_}
 use native.Mathlib.Nat.{zero-add}
 use native.Mathlib.Omega.{arith}
 use mathlib.Core.Path.{_≡_, refl, sym, ap, _∙_}
 use mathlib.Core.List.{List, [], _∷_, _++_, map, map-append, append-nil, append-assoc}
-use mathlib.Core.Bool.{Bool, true}
+use mathlib.Core.Bool.{Bool, true, false}
 use lib.Dec.{eqb}
-use lib.ListN.{length, getD, length-append, length-map}
-use lib.Seq.{take-append-seam}
+use lib.ListN.{length, getD, drop, length-append, length-map, take-append-drop, drop-of-length-le}
+use lib.Seq.{take-append-seam, drop-drop}
 use borrow.Author.Tests.{eqb-true, eqb-false}
 use Rattle.laws.specs.Bytes.{Bytes}
 use Rattle.laws.proofs.Never.{by-test, cond-elim}
 use Rattle.laws.proofs.Bytes.{bytes-nil, bytes-take, bytes-after}
+use Rattle.opus_defines.specs.declared.Verdict.the-variants.{Accepted}
 use Rattle.opus_size.specs.Size.{mostBytes}
 use Rattle.opus_toc.specs.Toc.{upperSix}
 use Rattle.opus_format.specs.Frames.{lengths, joined, total, longest}
@@ -25,20 +27,22 @@ use Rattle.opus_format.specs.Reading.{accepted, read}
 use Rattle.opus_format.proofs.Frames.{joined-cut, lengths-cut}
 use Rattle.opus_format.proofs.Counts.{lasts-few}
 use Rattle.opus_format.proofs.Complete.{spelled-read}
+use Rattle.blocks.proofs.Sets.{take-sets}
 use Rattle.opus_header.specs.Compact.{compact}
 use Rattle.opus_header.proofs.Spelled.{compact-spelled, compact-unpadded}
-use Rattle.repacketizer.specs.Collector.{held, heldLengths, leastStore}
+use Rattle.repacketizer.specs.Collector.{held, heldLengths}
 use Rattle.repacketizer.specs.Adding.{Adding, goesWith, withFrames, added}
-use Rattle.repacketizer.specs.Runs.{State, Ready, afterAdd, afterAdds}
+use Rattle.repacketizer.specs.Runs.{State, Ready, Empty, Holds, AllAccepted, adding, afterAdd, afterAdds}
 use Rattle.opus_format.proofs.Lengths.{longest-append}
 use Rattle.repacketizer.proofs.Sound.{lasts-timed, sound-full}
 use Rattle.repacketizer.proofs.Held.{Holding}
 use Rattle.repacketizer.proofs.Adds.{goes-none, goes-time, taken, add-sound, add-read, block-added}
 use Rattle.repacketizer.proofs.Steps.{add-ready, add-held}
-use Rattle.repacketizer.proofs.Runs.{empty-ready}
-use Rattle.repacketizer.proofs.Promises.{start}
-use Rattle.repacketizer_out.specs.Pieces.{Nonempty, together}
-use Rattle.repacketizer_out.proofs.Ranges.{lasts-fewer, length-held, ready-holding}
+use Rattle.repacketizer.proofs.Runs.{empty-ready, empty-held}
+use Rattle.repacketizer_out.specs.Output.{range}
+use Rattle.repacketizer_out.specs.Pieces.{Nonempty, together, packed, Cut, Cuts, Room, outputsAdded}
+use Rattle.repacketizer_out.proofs.Ranges.{length-range, lasts-fewer, length-held, ready-holding}
+use Rattle.repacketizer_out.proofs.Outputs.{range-output, output-written}
 use Rattle.repacketizer_out.proofs.Packets.{nothing-behind, spelled-back, spelled-bytes, compact-short}
 
 -- ---- frames of bytes, none too long
@@ -62,13 +66,7 @@ fine-append a b f =
       record { small = omega arith; bytes = bytes-after (joined a) (joined b) all },
     )
 
--- ---- a collector that holds these frames, with these upper six TOC bits if it holds any
-pub record Holds (six : ℕ) (s : State) (done : List (List ℕ)) : Type 0 where
-  pub ready : Ready s
-  pub frames : held (s .rp) (s .store) ≡ done
-  pub same : 1 ≤ length done → upperSix (s .rp .toc) ≡ six
-
--- one piece more
+-- ---- one piece more
 module _ (sd : Bool) (six : ℕ) (k : six < 64) {s : State} {done : List (List ℕ)} (h : Holds six s done) (piece : List (List ℕ)) (some : 1 ≤ length piece)
     (l : Lasts six (length done + length piece)) (f : Fine piece) where
   abbrev p : List ℕ
@@ -121,31 +119,59 @@ module _ (sd : Bool) (six : ℕ) (k : six < 64) {s : State} {done : List (List �
       cond-elim (λ (n : ℕ). upperSix n ≡ six) (eqb (s .rp .«nb_frames») 0) toc (s .rp .toc) (λ e. spelled-back spells .1)
       (λ e. h .same (omega (arith, count, eqb-false (s .rp .«nb_frames») 0 e)))
 
-  pub piece-held : Holds six (afterAdd sd s p) (done ++ piece)
+  pub piece-accepted : adding s (packed sd six piece) .answer .verdict ≡ Accepted
+  piece-accepted = rw accepted-is
+
+  pub piece-held : Holds six (afterAdd s (packed sd six piece)) (done ++ piece)
   piece-held =
       record {
-        ready = add-ready sd s p (h .ready) bytes;
-        frames = add-held sd s p (h .ready) bytes ∙ rw (accepted-is, h .frames, spelled-back spells .0);
+        ready = add-ready s (packed sd six piece) (h .ready) bytes;
+        frames = add-held s (packed sd six piece) (h .ready) bytes ∙ rw (accepted-is, h .frames, spelled-back spells .0);
         same = λ m. ap (λ (a : Adding). upperSix (a .answer .rp .toc)) accepted-is ∙ kept;
       }
 
 -- all pieces
 pub pieces-held : (sd : Bool) (six : ℕ) → six < 64 → {s : State} {done : List (List ℕ)} → Holds six s done → (pieces : List (List (List ℕ)))
     → Nonempty pieces → Lasts six (length done + length (together pieces)) → Fine (together pieces)
-    → Holds six (afterAdds sd s (map (compact sd six) pieces)) (done ++ together pieces)
-pieces-held sd six k {done = done} h [] n l f = rw (append-nil done) h
+    → let l = map (packed sd six) pieces in AllAccepted s l × Holds six (afterAdds s l) (done ++ together pieces)
+pieces-held sd six k {done = done} h [] n l f = (tt, rw (append-nil done) h)
 pieces-held sd six k {done = done} h (piece ∷ pieces) n l f =
     let rest = together pieces in
     let parts = fine-append piece rest f in
     let size = length-append piece rest in
     let more : length (done ++ piece) + length rest ≡ length done + length (piece ++ rest) = omega (arith, length-append done piece) in
-    let now = piece-held sd six k h piece (n .0) (lasts-fewer (length done + length piece) l (omega (arith, n .0)) (omega arith)) (parts .0) in
-    rw (← append-assoc done piece rest) (pieces-held sd six k now pieces (n .1) (rw more l) (parts .1))
+    let brief = lasts-fewer (length done + length piece) l (omega (arith, n .0)) (omega arith) in
+    let now = piece-held sd six k h piece (n .0) brief (parts .0) in
+    let all = pieces-held sd six k now pieces (n .1) (rw more l) (parts .1) in
+    ((piece-accepted sd six k h piece (n .0) brief (parts .0), all .0), rw (← append-assoc done piece rest) (all .1))
 
 -- ---- pieces of what a collector holds
-together-some : (pieces : List (List (List ℕ))) → Nonempty pieces → 1 ≤ length pieces → 1 ≤ length (together pieces)
-together-some [] n h = absurd (omega arith)
-together-some (piece ∷ pieces) n h = omega (arith, n .0, length-append piece (together pieces))
+none-held : (six : ℕ) (e : State) → Empty e → Holds six e []
+none-held six e z = record { ready = empty-ready e z; frames = empty-held e z; same = λ m. absurd (omega arith) }
+
+-- the ranges between cut points
+abbrev pub ranges : ℕ → List Cut → List (List ℕ) → List (List (List ℕ))
+ranges begin [] frames = []
+ranges begin (c ∷ more) frames = range begin (c .end) frames ∷ ranges (c .end) more frames
+
+cuts-within : (begin n : ℕ) (cuts : List Cut) → Cuts begin n cuts → begin ≤ n
+cuts-within begin n [] k = omega (arith, k)
+cuts-within begin n (c ∷ more) k = omega (arith, k .0, cuts-within (c .end) n more (k .1))
+
+ranges-nonempty : (begin : ℕ) (cuts : List Cut) (frames : List (List ℕ)) → Cuts begin (length frames) cuts → Nonempty (ranges begin cuts frames)
+ranges-nonempty begin [] frames k = tt
+ranges-nonempty begin (c ∷ more) frames k =
+    let within = cuts-within (c .end) (length frames) more (k .1) in
+    (omega (arith, k .0, length-range begin (c .end) frames within), ranges-nonempty (c .end) more frames (k .1))
+
+ranges-together : (begin : ℕ) (cuts : List Cut) (frames : List (List ℕ)) → Cuts begin (length frames) cuts
+    → together (ranges begin cuts frames) ≡ drop begin frames
+ranges-together begin [] frames k = sym (drop-of-length-le frames {i = begin} (omega (arith, k)))
+ranges-together begin (c ∷ more) frames k =
+    let n = c .end - begin in
+    let sum : begin + n ≡ c .end = omega (arith, k .0) in
+    let rest : drop (c .end) frames ≡ drop n (drop begin frames) = sym (drop-drop n begin frames ∙ ap (λ m. drop m frames) sum) in
+    rw (ranges-together (c .end) more frames (k .1), rest) (take-append-drop n (drop begin frames))
 
 module _ (s : State) (r : Ready s) where
   holds : Holding (s .rp)
@@ -162,12 +188,38 @@ module _ (s : State) (r : Ready s) where
   held-lasts : 1 ≤ length (held (s .rp) (s .store)) → Lasts (upperSix (s .rp .toc)) (length (held (s .rp) (s .store)))
   held-lasts h = rw (length-held (s .rp) (s .store) holds) (holds .lasts (omega (arith, length-held (s .rp) (s .store) holds)))
 
-  -- added to an empty collector
+  -- added to a collector that holds nothing
   pub cuts-held : (sd : Bool) → Bytes (s .store) → (pieces : List (List (List ℕ))) → Nonempty pieces → together pieces ≡ held (s .rp) (s .store)
-      → 1 ≤ length pieces → (store : List ℕ) → leastStore ≤ length store
-      → Holds (upperSix (s .rp .toc)) (afterAdds sd (start store) (map (compact sd (upperSix (s .rp .toc))) pieces)) (held (s .rp) (s .store)) ×
-      (1 ≤ length (held (s .rp) (s .store)))
-  cuts-held sd b pieces n e some store h =
-      let all : 1 ≤ length (held (s .rp) (s .store)) = omega (arith, together-some pieces n some, ap length e) in
-      let empty : Holds (upperSix (s .rp .toc)) (start store) [] = record { ready = empty-ready store h; frames = refl; same = λ m. absurd (omega arith) } in
-      (rw (← e) (pieces-held sd (upperSix (s .rp .toc)) (omega (arith, r .byte)) empty pieces n (rw (e, zero-add) (held-lasts all)) (rw e (held-fine b))), all)
+      → (e : State) → Empty e
+      → let l = map (packed sd (upperSix (s .rp .toc))) pieces in
+      AllAccepted e l × Holds (upperSix (s .rp .toc)) (afterAdds e l) (held (s .rp) (s .store))
+  cuts-held sd b [] n same e z = (tt, rw (← same) (none-held (upperSix (s .rp .toc)) e z))
+  cuts-held sd b (piece ∷ pieces) n same e z =
+      let all : 1 ≤ length (held (s .rp) (s .store)) = omega (arith, n .0, length-append piece (together pieces), ap length same) in
+      let six = upperSix (s .rp .toc) in
+      rw same at
+      (pieces-held sd six (omega (arith, r .byte)) (none-held six e z) (piece ∷ pieces) n (rw (same, zero-add) (held-lasts all)) (rw same (held-fine b)))
+
+  -- ---- what the output calls left
+  pub outputs-packed : (sd : Bool) (begin : ℕ) (cuts : List Cut) → let frames = held (s .rp) (s .store) in
+      Cuts begin (length frames) cuts → Room sd (upperSix (s .rp .toc)) frames begin cuts
+      → outputsAdded sd s begin cuts ≡ map (packed sd (upperSix (s .rp .toc))) (ranges begin cuts frames)
+  outputs-packed sd begin [] k m = refl
+  outputs-packed sd begin (c ∷ more) k m =
+      let frames = held (s .rp) (s .store) in
+      let six = upperSix (s .rp .toc) in
+      let within = cuts-within (c .end) (length frames) more (k .1) in
+      let vs = compact sd six (range begin (c .end) frames) in
+      rw (
+        range-output sd false s r begin (c .end) (k .0) within (c .dst) (m .1 .0) ∙ output-written sd false six (range begin (c .end) frames) (c .dst) (m .0),
+        take-sets (c .dst) vs (m .0),
+        outputs-packed sd (c .end) more (k .1) (m .1 .1),
+      )
+
+  pub outputs-held : (sd : Bool) → Bytes (s .store) → (cuts : List Cut) → let frames = held (s .rp) (s .store) in
+      Cuts 0 (length frames) cuts → Room sd (upperSix (s .rp .toc)) frames 0 cuts → (e : State) → Empty e
+      → let l = outputsAdded sd s 0 cuts in AllAccepted e l × Holds (upperSix (s .rp .toc)) (afterAdds e l) frames
+  outputs-held sd b cuts k m e z =
+      let frames = held (s .rp) (s .store) in
+      rw (outputs-packed sd 0 cuts k m)
+      (cuts-held sd b (ranges 0 cuts frames) (ranges-nonempty 0 cuts frames k) (ranges-together 0 cuts frames k) e z)

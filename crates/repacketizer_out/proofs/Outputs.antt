@@ -94,6 +94,18 @@ module _ (sd pad : Bool) (six : ℕ) (frames : List (List ℕ)) (dst : List ℕ)
           → leaves dst (outFrames sd pad six frames (pos b) (pos e) (length dst)) ≡ leaves dst (output sd pad six (range b e frames) (length dst))
       frames-within h = rw (lt-ltb b e some, le-leb e (length frames) h)
 
+  -- no range of these frames
+  pub frames-out : (begin end : ℤ) → ((b e : ℕ) → begin ≡ pos b → end ≡ pos e → b < e → e ≤ length frames → ⊥)
+      → leaves dst (outFrames sd pad six frames begin end (length dst)) ≡ refuses BadArg dst
+  frames-out (negsuc b) end out = refl
+  frames-out (pos b) (negsuc e) out = refl
+  frames-out (pos b) (pos e) out =
+      by-test (ltb b e)
+      (λ t. frames-past b e (ltb-true b e t)
+      (by-test (ltb (length frames) e) (ltb-true (length frames) e)
+      (λ u. absurd (out b e refl refl (ltb-true b e t) (ltb-false (length frames) e u)))))
+      (λ t. frames-none b e (ltb-false b e t))
+
 -- a range of the frames that a collector holds, by its array and the place where the range stands in the store
 module _ (sd pad : Bool) (rp : OpusRepacketizer) (store dst : List ℕ) (h : Holding rp) (b e : ℕ) where
   pub held-past : b < e → rp .«nb_frames» < e

@@ -1,14 +1,14 @@
 -- What a buyer may count on when frames are written (demand 3, and document 01's refusals). `sd` is true for the self-delimited form.
 -- Assumes nothing.
 use Prim.Native.Nat.{ℕ, _≤_, _<_}
-use mathlib.Core.Path.{_≡_, _∙_}
+use mathlib.Core.Path.{_≡_, ap, _∙_}
 use mathlib.Core.List.{List, map}
 use mathlib.Core.Bool.{Bool, true, false}
 use mathlib.Core.Logic.{_⊎_}
 use lib.IntN.{ℤ, pos, negsuc}
 use lib.ListN.{length, getD, replicate}
 use Rattle.laws.specs.Bytes.{Bytes}
-use Rattle.opus_defines.specs.Outcome.{writes}
+use Rattle.opus_defines.specs.Outcome.{Outcome, writes}
 use Rattle.opus_toc.specs.Toc.{upperSix}
 use Rattle.opus_format.specs.Format.{Spells}
 use Rattle.opus_format.specs.Reading.{read, framesOf}
@@ -17,16 +17,18 @@ use Rattle.opus_header.proofs.Shortest.{shortest}
 use Rattle.opus_header.proofs.Spelled.{compact-spelled}
 use Rattle.opus_header.proofs.Filling.{filling-spelled, filling-zeros}
 use Rattle.repacketizer.specs.declared.OpusRepacketizer.{OpusRepacketizer}
-use Rattle.repacketizer.specs.Collector.{held, leastStore}
-use Rattle.repacketizer.specs.Runs.{State, Ready, afterAdds}
-use Rattle.repacketizer.proofs.Promises.{start}
+use Rattle.repacketizer.specs.Collector.{held, leastStore, sound}
+use Rattle.repacketizer.specs.Runs.{State, Ready, Empty, Holds, Arrival, AllBytes, AllAccepted, afterAdds, framesAccepted}
+use Rattle.repacketizer.proofs.Runs.{runs-bytes}
+use Rattle.repacketizer.proofs.Promises.{frames-are-kept, collector-stays-sound}
 use Rattle.opus_defines.proofs.Outcomes.{refusal-keeps}
 use Rattle.repacketizer_out.specs.Output.{outputs, range, outRange}
-use Rattle.repacketizer_out.specs.Pieces.{Nonempty, together}
+use Rattle.repacketizer_out.specs.Pieces.{Nonempty, together, packed, Cut, Cuts, Room, outputsAdded}
 use Rattle.repacketizer_out.proofs.Ranges.{range-lasts, range-small}
+use Rattle.repacketizer_out.proofs.Outputs.{out-unsound, out-tight, out-long, out-sound, frames-out}
 use Rattle.repacketizer_out.proofs.Outputs.{range-output, output-written, output-exactly, output-fills}
 use Rattle.repacketizer_out.proofs.Packets.{spelled-back}
-use Rattle.repacketizer_out.proofs.Again.{cuts-held}
+use Rattle.repacketizer_out.proofs.Again.{cuts-held, outputs-held}
 
 -- 3. Shortest: whatever RFC packet has these frames and these upper six TOC bits is the compact packet, or is longer than it.
 pub compact-is-shortest : {sd : Bool} {six : ℕ} {p : List ℕ} {frames : List (List ℕ)} → Spells sd six p frames
@@ -78,18 +80,61 @@ module _ (s : State) (r : Ready s) (begin end : ℕ) (some : begin < end) (withi
   unfolding filling-is-a-packet
   padding-is-zeros sd m = filling-zeros sd six frames m (range-lasts s r begin end some within) (range-small s r begin end some within)
 
--- 6. The frames held, cut into consecutive pieces that are not empty, each written in ordinary form and added in order to an empty
--- collector, are held again, with the same upper six TOC bits.
-pub cuts-give-the-frames-again : (s : State) → Ready s → Bytes (s .store) → (pieces : List (List (List ℕ))) → Nonempty pieces
-    → together pieces ≡ held (s .rp) (s .store) → 1 ≤ length pieces → (store : List ℕ) → leastStore ≤ length store
-    → let after = afterAdds false (start store) (map (compact false (upperSix (s .rp .toc))) pieces) in
-    (held (after .rp) (after .store) ≡ held (s .rp) (s .store)) × (upperSix (after .rp .toc) ≡ upperSix (s .rp .toc))
-cuts-give-the-frames-again s r b pieces n e some store h =
-    let again = cuts-held s r false b pieces n e some store h in
-    (again .0 .frames, again .0 .same (again .1))
+-- 6. The frames held, cut into consecutive pieces that are not empty, each as its compact packet and added in order to a collector that holds
+-- nothing, are held again, with the same upper six TOC bits; every add is accepted.
+pub cuts-give-the-frames-again : (s : State) → Ready s → Bytes (s .store) → (sd : Bool) (pieces : List (List (List ℕ))) → Nonempty pieces
+    → together pieces ≡ held (s .rp) (s .store) → (e : State) → Empty e
+    → let l = map (packed sd (upperSix (s .rp .toc))) pieces in
+    AllAccepted e l × Holds (upperSix (s .rp .toc)) (afterAdds e l) (held (s .rp) (s .store))
+cuts-give-the-frames-again s r b sd pieces n same e z = cuts-held s r sd b pieces n same e z
+
+-- From adds to outputs to adds: F are the frames of the packets that a collector which held nothing has accepted. F cut at any points, each range
+-- written by an output call into a destination with room, and what each call left in front added in order to any collector that holds nothing:
+-- every add is accepted, the frames held are F, and the upper six TOC bits are the same.
+pub packing-can-be-undone : (empty : State) → Empty empty → Bytes (empty .store) → (l : List Arrival) → AllBytes l
+    → let s = afterAdds empty l in
+    let frames = framesAccepted empty l in
+    let six = upperSix (s .rp .toc) in
+    (sd : Bool) (cuts : List Cut) → Cuts 0 (length frames) cuts → Room sd six frames 0 cuts → (again : State) → Empty again
+    → let back = outputsAdded sd s 0 cuts in
+    AllAccepted again back × Holds six (afterAdds again back) frames
+packing-can-be-undone empty z k l b sd cuts c m again e =
+    let s = afterAdds empty l in
+    let kept = frames-are-kept empty z l b in
+    rw (← kept) (outputs-held s (collector-stays-sound empty z l b) sd (runs-bytes empty l k b) cuts (rw kept c) (rw kept m) again e)
 
 -- 7. A refused output changes nothing.
 pub refused-output-changes-nothing : (sd pad : Bool) (rp : OpusRepacketizer) (store : List ℕ) (begin end : ℤ) (dst : List ℕ) (n : ℕ)
     → outRange sd pad rp store begin end dst .number ≡ negsuc n → outRange sd pad rp store begin end dst .bytes ≡ dst
 unfolding outRange
 refused-output-changes-nothing sd pad rp store begin end dst n e = refusal-keeps dst (outputs sd pad rp store begin end (length dst)) n e
+
+-- 8. The order of an output's refusals: each fault gives its number, whatever else is wrong behind it.
+module _ (sd pad : Bool) (rp : OpusRepacketizer) (store : List ℕ) (begin end : ℤ) (dst : List ℕ) where
+  abbrev number : ℤ
+  number = outRange sd pad rp store begin end dst .number
+
+  answers : {o : Outcome} → outRange sd pad rp store begin end dst ≡ o → number ≡ o .number
+  answers e = ap (λ (o : Outcome). o .number) e
+
+  -- an unsound collector, -6,
+  pub output-collector-first : sound rp ≡ false → number ≡ negsuc 5
+  output-collector-first u = answers (out-unsound sd pad rp store begin end dst u)
+
+  module _ (soundly : sound rp ≡ true) where
+    -- then a store of too few bytes, -1,
+    pub output-then-store : length store < leastStore → number ≡ negsuc 0
+    output-then-store h = answers (out-tight sd pad rp store begin end dst soundly h)
+
+    module _ (roomy : leastStore ≤ length store) where
+      -- then a destination of too many bytes, -1,
+      pub output-then-destination : 65535 < length dst → number ≡ negsuc 0
+      output-then-destination h = answers (out-long sd pad rp store begin end dst soundly roomy h)
+
+      -- then a range that is not 0 <= begin < end <= held, -1; room is tested last (`refused-for-room-exactly`).
+      pub output-then-range : length dst ≤ 65535
+          → ((b e : ℕ) → begin ≡ pos b → end ≡ pos e → b < e → e ≤ length (held rp store) → ⊥) → number ≡ negsuc 0
+      output-then-range h out =
+          answers
+          (out-sound sd pad rp store begin end dst soundly roomy h
+          ∙ frames-out sd pad (upperSix (rp .toc)) (held rp store) dst begin end out)

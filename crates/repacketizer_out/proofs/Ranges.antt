@@ -26,7 +26,7 @@ use Rattle.repacketizer.proofs.Held.{Holding, holding}
 use Rattle.repacketizer_out.specs.Output.{range}
 
 -- ---- ranges of a list
-length-range : {A : Type 0} (b e : ℕ) (l : List A) → e ≤ length l → length (range b e l) ≡ e - b
+pub length-range : {A : Type 0} (b e : ℕ) (l : List A) → e ≤ length l → length (range b e l) ≡ e - b
 length-range b e l h = simp (length-take, length-drop) (omega arith)
 
 -- of the front of a list

@@ -1,7 +1,15 @@
--- Frames cut into consecutive pieces, as demand 3 speaks of them.
-use Prim.Native.Nat.{ℕ, _≤_}
+-- Frames cut into consecutive pieces, each written and added again, as demand 3 speaks of them.
+use Prim.Native.Nat.{ℕ, _≤_, _<_}
+use mathlib.Core.Path.{_≡_}
 use mathlib.Core.List.{List, [], _∷_, _++_}
-use lib.ListN.{length}
+use mathlib.Core.Bool.{Bool, false}
+use lib.IntN.{ℤ, pos, negsuc}
+use lib.ListN.{length, take}
+use Rattle.opus_defines.specs.Bounds.{mostPacket}
+use Rattle.opus_defines.specs.Outcome.{Outcome}
+use Rattle.opus_header.specs.Compact.{compact}
+use Rattle.repacketizer.specs.Runs.{State, Arrival}
+use Rattle.repacketizer_out.specs.Output.{range, outRange}
 
 -- pieces of at least one frame each
 abbrev pub Nonempty : List (List (List ℕ)) → Type 0
@@ -12,3 +20,39 @@ Nonempty (piece ∷ pieces) = (1 ≤ length piece) × Nonempty pieces
 abbrev pub together : List (List (List ℕ)) → List (List ℕ)
 together [] = []
 together (piece ∷ pieces) = piece ++ together pieces
+
+-- a piece as the packet of an add
+abbrev pub packed : Bool → ℕ → List (List ℕ) → Arrival
+packed sd six piece = record { sd = sd; packet = compact sd six piece }
+
+-- one output of a sequence: where its range ends and the next one begins, and its destination
+pub record Cut : Type 0 where
+  pub end : ℕ
+  pub dst : List ℕ
+
+-- the cut points from `begin` on: each above the one before it, the last one n
+abbrev pub Cuts : ℕ → ℕ → List Cut → Type 0
+Cuts begin n [] = begin ≡ n
+Cuts begin n (c ∷ more) = (begin < c .end) × Cuts (c .end) n more
+
+-- each destination has room for the compact packet of its frames
+abbrev pub Room : Bool → ℕ → List (List ℕ) → ℕ → List Cut → Type 0
+Room sd six frames begin [] = Unit {0}
+Room sd six frames begin (c ∷ more) =
+    (length (compact sd six (range begin (c .end) frames)) ≤ length (c .dst))
+    × ((length (c .dst) ≤ mostPacket) × Room sd six frames (c .end) more)
+
+-- what a call left in front of its buffer: as many bytes as its number says
+abbrev pub front : Outcome → List ℕ
+front o = go (o .number)
+  where
+    go : ℤ → List ℕ
+    go (pos n) = take n (o .bytes)
+    go (negsuc n) = []
+
+-- the unpadded outputs of one range after another, each as the packet of an add
+abbrev pub outputsAdded : Bool → State → ℕ → List Cut → List Arrival
+outputsAdded sd s begin [] = []
+outputsAdded sd s begin (c ∷ more) =
+    record { sd = sd; packet = front (outRange sd false (s .rp) (s .store) (pos begin) (pos (c .end)) (c .dst)) }
+    ∷ outputsAdded sd s (c .end) more
