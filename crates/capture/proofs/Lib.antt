@@ -5,6 +5,7 @@ pub mod Written
 pub mod Answers
 pub mod Steps
 pub mod Whole
+pub mod Once
 pub mod Apart
 pub mod Resuming
 pub mod ReadBack

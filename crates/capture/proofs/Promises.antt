@@ -2,18 +2,19 @@
 -- Assumes nothing.
 use mathlib.Core.Path.{_≡_, sym, ap, _∙_}
 use mathlib.Core.List.{List, [], _∷_, _++_}
-use Prim.Native.Nat.{ℕ, _-_, _≤_}
+use Prim.Native.Nat.{ℕ, _+_, _-_, _≤_, _<_}
 use native.Mathlib.Omega.{arith}
 use lib.ListN.{length, getD, drop}
 use Rattle.laws.specs.Bytes.{Bytes}
 use Rattle.capture.specs.declared.NextRecord.{NextRecord}
 use Rattle.capture.specs.Records.{Entry, Holds, written, fileOf, HoldAll}
 use Rattle.capture.specs.Finding.{packetLength, packetAt}
-use Rattle.capture.specs.Reading.{behind, begins, readings, Among, joined, PassedOver, InRecord, answersFor}
+use Rattle.capture.specs.Reading.{behind, begins, readings, Among, joined, PassedOver, InRecord, timesPassed, timesHeld, answersFor}
 use Rattle.capture.proofs.Written.{written-found, written-packet, found-holds, found-written}
 use Rattle.capture.proofs.Answers.{none-at-end}
 use Rattle.capture.proofs.Steps.{among-is}
 use Rattle.capture.proofs.Whole.{join-from}
+use Rattle.capture.proofs.Once.{once-from}
 use Rattle.capture.proofs.Apart.{answer-nothing, answer-stands, answer-end, apart}
 use Rattle.capture.proofs.Resuming.{splits, splits-behind, splits-before}
 use Rattle.capture.proofs.ReadBack.{back-from}
@@ -37,6 +38,10 @@ pieces-join-to-the-file s = join-from s 0 (omega arith)
 
 pub pieces-join-from : (s : List ℕ) (at : ℕ) → at ≤ length s → joined s (readings s at) ≡ drop at s
 pieces-join-from s at h = join-from s at h
+
+-- By place: of every byte, one answer passes it over and it lies in no record so read, or no answer does and it lies in just one.
+pub each-byte-once : (s : List ℕ) (k : ℕ) → k < length s → timesPassed (readings s 0) k + timesHeld (readings s 0) k ≡ 1
+each-byte-once s k h = once-from s 0 (omega arith) .one k (omega arith) h
 
 -- ---- 2. At no passed-over place does a record stand, and a passed-over byte is in no record so read; what is found stands there.
 pub nothing-stands-where-passed-over : (s : List ℕ) (at : ℕ) (a : NextRecord) → at ≤ length s → Among a (readings s at)

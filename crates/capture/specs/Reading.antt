@@ -5,7 +5,7 @@ use mathlib.Core.Path.{_≡_}
 use mathlib.Core.Logic.{_⊎_}
 use mathlib.Core.List.{List, [], _∷_, _++_}
 use mathlib.Core.Bool.{cond}
-use lib.Dec.{eqb}
+use lib.Dec.{eqb, leb, ltb}
 use lib.ListN.{length, take, drop}
 use Rattle.opus_defines.specs.declared.Verdict.the-variants.{Accepted}
 use Rattle.capture.specs.Records.{Entry, headBytes}
@@ -61,6 +61,19 @@ pub record PassedOver (a : NextRecord) (k : ℕ) : Type 0 where
 pub record InRecord (a : NextRecord) (k : ℕ) : Type 0 where
   pub from : a .place ≤ k
   pub below : k < behind a
+
+-- 1 where the place k is not before `from` and is before `below`, and else 0
+unfoldable pub within : ℕ → ℕ → ℕ → ℕ
+within from below k = cond (leb from k) (cond (ltb k below) 1 0) 0
+
+-- how many of the answers pass the byte at place k over, and in the records of how many it lies
+unfoldable pub timesPassed : List NextRecord → ℕ → ℕ
+timesPassed [] k = 0
+timesPassed (a ∷ more) k = within (begins a) (a .place) k + timesPassed more k
+
+unfoldable pub timesHeld : List NextRecord → ℕ → ℕ
+timesHeld [] k = 0
+timesHeld (a ∷ more) k = within (a .place) (behind a) k + timesHeld more k
 
 -- ---- records one right behind another
 -- the answers for such records, of which the first stands at a place: nothing is passed over
