@@ -2,13 +2,14 @@
 --     Held, held        its first stream, and those behind it
 --     exchanged         any bytes that spell that stream may take its place
 --     readable-some     it is not empty
---     repack-holds      the compact packets of its streams hold its streams
+--     repack-compact    unpad writes the compact packets of its streams,
+--     compact-holds     which hold its streams
 --     LastOf, last-of   its last stream, which may be exchanged likewise
 -- Assumes nothing.
 use Prim.Native.Nat.{ℕ, zero, suc, _+_, _≤_}
 use native.Mathlib.Omega.{arith}
-use mathlib.Core.Path.{_≡_, refl, _∙_}
-use mathlib.Core.List.{List, [], _∷_, _++_, append-assoc}
+use mathlib.Core.Path.{_≡_, refl, sym, ap, _∙_}
+use mathlib.Core.List.{List, [], _∷_, _++_, append-assoc, append-nil}
 use mathlib.Core.Bool.{Bool, true, false}
 use lib.ListN.{length, take, drop}
 use lib.Seq.{drop-append-seam, drop-drop, take-add}
@@ -27,7 +28,7 @@ use Rattle.opus_header.proofs.Rebuilt.{compact-of}
 use Rattle.multistream.specs.declared.Passed.the-variants.{Past}
 use Rattle.multistream.specs.Streams.{passStreams}
 use Rattle.multistream.specs.Unpad.{Repacked, repacked, repackReading, repackStreams}
-use Rattle.multistream.specs.Reading.{Stream, Streams, unreadable, streams, andStreams, thenStreams, readStreams}
+use Rattle.multistream.specs.Reading.{Stream, Streams, unreadable, streams, andStreams, thenStreams, readStreams, compactStreams}
 
 -- ---- one stream and those behind it
 abbrev pub streamAt : List ℕ → ℕ → List ℕ → ℕ → Stream
@@ -42,6 +43,10 @@ pub record Held (sd : Bool) (next : List ℕ → Streams) (p : List ℕ) (xs : L
   pub others : List Stream
   pub rest : next (drop taken p) ≡ streams others
   pub all : streamAt p toc ns first ∷ others ≡ xs
+
+-- its first stream and those behind it, in a list
+abbrev first-of : {sd : Bool} {next : List ℕ → Streams} {p : List ℕ} {xs : List Stream} → Held sd next p xs → List Stream
+first-of {p = p} h = streamAt p (h .toc) (h .ns) (h .first) ∷ h .others
 
 pub held : (sd : Bool) (next : List ℕ → Streams) (p : List ℕ) (xs : List Stream) → thenStreams next p (read sd p) ≡ streams xs → Held sd next p xs
 held sd next p xs e = go (read sd p) refl e
@@ -84,32 +89,40 @@ module _ (sd : Bool) (next : List ℕ → Streams) (p : List ℕ) (bytes : Bytes
       → thenStreams next (c ++ rest) (read sd (c ++ rest)) ≡ streams xs
   exchanged w rest b e = spelled-streams w rest b next ∙ rw (e, h .all)
 
-  repacks : (nextR : List ℕ → Repacked) (q : List ℕ) → nextR (drop (h .taken) p) ≡ repacked q
-      → repackReading sd nextR p (read sd p) ≡ repacked (compact sd six frames ++ q)
-  repacks nextR q e = rw (h .means, e)
+-- its compact packet stands in front of those behind it
+repacks : (sd : Bool) (next : List ℕ → Streams) (p : List ℕ) (xs : List Stream) (h : Held sd next p xs) (nextR : List ℕ → Repacked) (q : List ℕ)
+    → nextR (drop (h .taken) p) ≡ repacked q
+    → repackReading sd nextR p (read sd p) ≡ repacked (compact sd (upperSix (h .toc)) (cut (h .ns) (drop (h .first) p)) ++ q)
+repacks sd next p xs h nextR q e = rw (h .means, e)
 
 -- ---- all streams
 pub readable-some : (k : ℕ) (p : List ℕ) → Bytes p → (xs : List Stream) → readStreams k p ≡ streams xs → 1 ≤ length p
 readable-some zero p bytes xs e = held-some false (λ t. streams []) p bytes xs (held false (λ t. streams []) p xs e)
 readable-some (suc k) p bytes xs e = held-some true (readStreams k) p bytes xs (held true (readStreams k) p xs e)
 
-pub repack-holds : (k : ℕ) (p : List ℕ) → Bytes p → (xs : List Stream) → readStreams k p ≡ streams xs
-    → (q : List ℕ) × (repackStreams k p ≡ repacked q) × (readStreams k q ≡ streams xs)
-repack-holds zero p bytes xs e =
+pub repack-compact : (k : ℕ) (p : List ℕ) (xs : List Stream) → readStreams k p ≡ streams xs → repackStreams k p ≡ repacked (compactStreams k xs)
+repack-compact zero p xs e =
     let next : List ℕ → Streams = λ t. streams [] in
-    let h = held false next p xs e in (
-      _,
-      repacks false next p bytes xs h (λ t. repacked []) [] refl,
-      exchanged false next p bytes xs h (compact-of (was false next p bytes xs h)) [] refl (h .rest),
-    )
-repack-holds (suc k) p bytes xs e =
+    let h = held false next p xs e in
+    let same = append-nil (compactStreams 0 (first-of h)) ∙ ap (λ ys. compactStreams 0 ys) (h .all) in
+    repacks false next p xs h (λ t. repacked []) [] refl ∙ ap repacked same
+repack-compact (suc k) p xs e =
+    let h = held true (readStreams k) p xs e in
+    repacks true (readStreams k) p xs h (repackStreams k) (compactStreams k (h .others)) (repack-compact k (drop (h .taken) p) (h .others) (h .rest))
+    ∙ ap (λ ys. repacked (compactStreams (suc k) ys)) (h .all)
+
+pub compact-holds : (k : ℕ) (p : List ℕ) → Bytes p → (xs : List Stream) → readStreams k p ≡ streams xs → readStreams k (compactStreams k xs) ≡ streams xs
+compact-holds zero p bytes xs e =
+    let next : List ℕ → Streams = λ t. streams [] in
+    let h = held false next p xs e in
+    let same = append-nil (compactStreams 0 (first-of h)) ∙ ap (λ ys. compactStreams 0 ys) (h .all) in
+    ap (λ q. readStreams 0 q) (sym same) ∙ exchanged false next p bytes xs h (compact-of (was false next p bytes xs h)) [] refl (h .rest)
+compact-holds (suc k) p bytes xs e =
     let next = readStreams k in
     let h = held true next p xs e in
-    let i = repack-holds k (drop (h .taken) p) (bytes-drop (h .taken) p bytes) (h .others) (h .rest) in (
-      _,
-      repacks true next p bytes xs h (repackStreams k) (i .0) (i .1),
-      exchanged true next p bytes xs h (compact-of (was true next p bytes xs h)) (i .0) tt (i .2),
-    )
+    let rest = compact-holds k (drop (h .taken) p) (bytes-drop (h .taken) p bytes) (h .others) (h .rest) in
+    ap (λ ys. readStreams (suc k) (compactStreams (suc k) ys)) (sym (h .all))
+    ∙ exchanged true next p bytes xs h (compact-of (was true next p bytes xs h)) (compactStreams k (h .others)) tt rest
 
 -- ---- the last stream
 -- it is at a place behind the others, and anything that reads as it may take its place

@@ -1,11 +1,16 @@
 -- What a buyer may count on when a multistream packet is padded or stripped of padding where it lies.
 -- Assumes nothing.
 use Prim.Native.Nat.{ℕ, suc, _≤_, _<_}
-use mathlib.Core.Path.{_≡_, _∙_}
+use native.Mathlib.Omega.{arith}
+use mathlib.Core.Path.{_≡_}
 use mathlib.Core.List.{List}
+use lib.Dec.{eqb}
 use lib.IntN.{ℤ, pos, negsuc}
 use lib.ListN.{length, take}
+use borrow.Author.Tests.{eqb-true, eqb-false}
 use Rattle.laws.specs.Bytes.{Bytes}
+use Rattle.laws.proofs.Bytes.{bytes-take}
+use Rattle.laws.proofs.Never.{by-test}
 use Rattle.opus_defines.specs.Outcome.{writes}
 use Rattle.opus_defines.proofs.Outcomes.{refusal-keeps}
 use Rattle.packet_pad.specs.Lengths.{lengthOf, lengthsOf, bounded, byLengths}
@@ -13,23 +18,41 @@ use Rattle.packet_pad.specs.Pad.{padsTo}
 use Rattle.multistream.specs.Streams.{streamsOf}
 use Rattle.multistream.specs.Pad.{padStreams, streamsPadded}
 use Rattle.multistream.specs.Unpad.{unpadStreams, streamsUnpadded}
-use Rattle.multistream.specs.Reading.{Stream, streams, readStreams}
-use Rattle.multistream.proofs.Written.{pad-holds, unpad-holds}
+use Rattle.multistream.specs.Reading.{Stream, streams, readStreams, compactStreams}
+use Rattle.multistream.proofs.Written.{compact-within, unpad-compact, readable-some-bytes, pad-equal, pad-holds, pad-unpad}
+use Rattle.multistream.proofs.Holding.{compact-holds}
 use Rattle.multistream.proofs.Roomy.{unpad-roomy}
 
 -- a multistream packet of k + 1 streams that can be read, in the first len bytes of a buffer
 module _ (s : List ℕ) (bytes : Bytes s) (len : ℕ) (fits : len ≤ length s) (most : len ≤ 65535) (k : ℕ) (few : suc k ≤ 255) (xs : List Stream)
     (r : readStreams k (take len s) ≡ streams xs) where
-  -- Unpad never refuses it: what it writes holds stream by stream the same frames and upper six TOC bits, and is no longer.
-  pub unpad-keeps-the-streams : (q : List ℕ) × (streamsUnpadded s (pos len) (pos (suc k)) ≡ writes q s) × (readStreams k q ≡ streams xs) × (length q ≤ len)
-  unpad-keeps-the-streams =
-      unpad-holds s bytes len fits most k few xs r
+  -- Unpad never refuses it: it writes the compact packets of its streams one behind another (each the shortest of its kind: `compact-is-shortest`,
+  -- repacketizer_out/proofs/Promises.antt),
+  pub unpad-is-compact : streamsUnpadded s (pos len) (pos (suc k)) ≡ writes (compactStreams k xs) s
+  unpad-is-compact = unpad-compact s len (readable-some-bytes s bytes len fits most k few xs r) fits most k few xs r
+
+  -- which hold stream by stream the same frames and upper six TOC bits,
+  pub unpad-keeps-the-streams : readStreams k (compactStreams k xs) ≡ streams xs
+  unpad-keeps-the-streams = compact-holds k (take len s) (bytes-take len s bytes) xs r
+
+  -- and are no longer than any packet that holds them.
+  pub unpad-is-shortest : (p : List ℕ) → Bytes p → readStreams k p ≡ streams xs → length (compactStreams k xs) ≤ length p
+  unpad-is-shortest p b e = compact-within k p b xs e
 
   -- Pad never refuses it: what it writes has the new length and holds the same.
   pub pad-keeps-the-streams : (new : ℕ) → len < new → new ≤ length s → new ≤ 65535
       → (q : List ℕ) × (streamsPadded s (pos len) (pos new) (pos (suc k)) ≡ padsTo q s) × (readStreams k q ≡ streams xs) × (length q ≡ new)
   pad-keeps-the-streams new more room short =
       pad-holds s bytes len fits most k few xs r new more room short
+
+  -- Padded, to a longer length or to its own, and then unpadded, it is what unpadding alone gives.
+  pub pad-then-unpad : (new : ℕ) → len ≤ new → new ≤ length s → new ≤ 65535
+      → let after = streamsPadded s (pos len) (pos new) (pos (suc k)) .bytes in
+      streamsUnpadded after (pos new) (pos (suc k)) ≡ writes (compactStreams k xs) after
+  pad-then-unpad new more room short =
+      by-test (eqb len new)
+      (λ e. rw (← eqb-true len new e, pad-equal s bytes len fits most k few xs r) unpad-is-compact)
+      (λ e. pad-unpad s bytes len fits most k few xs r new (omega (arith, eqb-false len new e)) room short)
 
 -- Unpad never lacks room: whatever the buffer, the length and the number of streams, it does not answer -2.
 pub unpad-never-lacks-room : (s : List ℕ) (len nb : ℤ) → streamsUnpadded s len nb .number ≡ negsuc 1 → ⊥

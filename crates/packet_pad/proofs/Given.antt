@@ -106,3 +106,7 @@ unfolding lengthsOf
 lengths-own s n m some h room short =
     rw (length-own s n (omega arith) (omega arith), length-own s m room short)
     (sym (lengths-more n m (λ e. omega arith) (λ e. omega arith) (λ e. omega arith) (omega arith)))
+
+pub lengths-equal : (s : List ℕ) (n : ℕ) → 1 ≤ n → n ≤ length s → n ≤ 65535 → lengthsOf s (pos n) (pos n) ≡ Same
+unfolding lengthsOf
+lengths-equal s n some room short = rw (length-own s n room short) (sym (lengths-same n n (λ e. omega arith) (λ e. omega arith) refl))

@@ -5,11 +5,14 @@ use native.Mathlib.Omega.{arith}
 use mathlib.Core.Path.{_≡_}
 use mathlib.Core.List.{List}
 use mathlib.Core.Bool.{false}
+use lib.Dec.{eqb}
 use lib.IntN.{ℤ, pos, negsuc}
 use lib.ListN.{length, getD, take, drop}
 use lib.Seq.{length-take-le}
+use borrow.Author.Tests.{eqb-true, eqb-false}
 use Rattle.laws.specs.Bytes.{Bytes}
 use Rattle.laws.proofs.Bytes.{bytes-take}
+use Rattle.laws.proofs.Never.{by-test}
 use Rattle.opus_defines.specs.Outcome.{writes}
 use Rattle.opus_defines.proofs.Outcomes.{refusal-keeps}
 use Rattle.opus_toc.specs.Toc.{upperSix}
@@ -22,7 +25,7 @@ use Rattle.opus_header.proofs.Rebuilt.{spelled-some, compact-of, never-longer}
 use Rattle.packet_pad.specs.Lengths.{lengthOf, lengthsOf, bounded, byLengths}
 use Rattle.packet_pad.specs.Pad.{padsTo, padPacket, padded}
 use Rattle.packet_pad.specs.Unpad.{unpadPacket, unpadded}
-use Rattle.packet_pad.proofs.Spelled.{read-whole, reads-back, filling-of, pad-spelled, unpad-spelled, unpad-written}
+use Rattle.packet_pad.proofs.Spelled.{read-whole, reads-back, filling-of, pad-spelled, pad-equal, unpad-spelled, unpad-written}
 
 -- a packet that the reader accepts, in the first len bytes of a buffer
 module _ (s : List ℕ) (bytes : Bytes s) (len : ℕ) (fits : len ≤ length s) (most : len ≤ 65535) (toc : ℕ) (ns : List ℕ) (first taken : ℕ)
@@ -62,9 +65,16 @@ module _ (s : List ℕ) (bytes : Bytes s) (len : ℕ) (fits : len ≤ length s) 
         × (upperSix (getD (filling false six frames new) 0 0) ≡ six)
     padded-reads-back = reads-back (filling-of packet new)
 
-    -- 1. Padded and then unpadded, it is what unpadding alone gives: the same packet and the same length.
-    pub pad-then-unpad : unpadded (padded s (pos len) (pos new) .bytes) (pos new) ≡ writes (compact false six frames) (padded s (pos len) (pos new) .bytes)
-    pad-then-unpad = rw pad-is-filling (unpad-written s new padded-has-the-length room short (filling-of packet new))
+    pad-more-then-unpad : unpadded (padded s (pos len) (pos new) .bytes) (pos new) ≡ writes (compact false six frames) (padded s (pos len) (pos new) .bytes)
+    pad-more-then-unpad = rw pad-is-filling (unpad-written s new padded-has-the-length room short (filling-of packet new))
+
+  -- 1. Padded, to a longer length or to its own, and then unpadded, it is what unpadding alone gives: the same packet and the same length.
+  pub pad-then-unpad : (new : ℕ) → len ≤ new → new ≤ length s → new ≤ 65535
+      → let after = padded s (pos len) (pos new) .bytes in unpadded after (pos new) ≡ writes (compact false six frames) after
+  pad-then-unpad new more room short =
+      by-test (eqb len new)
+      (λ e. rw (← eqb-true len new e, pad-equal s len fits most packet) unpad-is-compact)
+      (λ e. pad-more-then-unpad new (omega (arith, eqb-false len new e)) room short)
 
 -- 7. A refusal leaves every byte.
 pub refused-pad-changes-nothing : (s : List ℕ) (len new : ℤ) (n : ℕ) → padded s len new .number ≡ negsuc n → padded s len new .bytes ≡ s

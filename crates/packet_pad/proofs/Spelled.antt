@@ -3,7 +3,8 @@
 --     reads-back                      what is spelled reads as its frames and upper six TOC bits
 --     filling-of                      the padded packet of its frames is spelled too
 --     pads, unpads                    pad and unpad write those packets,
---     pad-spelled, unpad-spelled      in the first bytes of a buffer too
+--     pad-spelled, unpad-spelled      in the first bytes of a buffer too,
+--     pad-equal                       where pad to its own length leaves it
 --     unpad-written                   and so does unpad of a packet that was written into the buffer
 -- Assumes nothing.
 use Prim.Native.Nat.{ℕ, _≤_, _<_}
@@ -28,8 +29,8 @@ use Rattle.opus_header.proofs.Rebuilt.{spelled-lasts, spelled-some}
 use Rattle.opus_header.proofs.Filling.{filling-spelled}
 use Rattle.packet_pad.specs.Pad.{padsTo, padPacket, padded}
 use Rattle.packet_pad.specs.Unpad.{unpadPacket, unpadded}
-use Rattle.packet_pad.proofs.Given.{length-own, lengths-own}
-use Rattle.packet_pad.proofs.Calls.{pad-more, unpad-some}
+use Rattle.packet_pad.proofs.Given.{length-own, lengths-own, lengths-equal}
+use Rattle.packet_pad.proofs.Calls.{pad-same, pad-more, unpad-some}
 
 pub read-whole : (p : List ℕ) (toc : ℕ) (ns : List ℕ) (first taken : ℕ) → Bytes p → read false p ≡ accepted toc ns first taken
     → Spells false (upperSix toc) p (cut ns (drop first p))
@@ -76,6 +77,9 @@ module _ {six : ℕ} {frames : List (List ℕ)} (s : List ℕ) (len : ℕ) (fits
   pub pad-spelled : (new : ℕ) → len < new → new ≤ length s → new ≤ 65535 → padded s (pos len) (pos new) ≡ padsTo (filling false six frames new) s
   pad-spelled new more room short =
       pad-more s (pos len) (pos new) len new (lengths-own s len new some more room short) ∙ ap (leaves s) (pads w new)
+
+  pub pad-equal : padded s (pos len) (pos len) .bytes ≡ s
+  pad-equal = rw (pad-same s (pos len) (pos len) (lengths-equal s len some fits most))
 
 -- a packet q that was written into the buffer
 pub unpad-written : {six : ℕ} {q : List ℕ} {frames : List (List ℕ)} (s : List ℕ) (n : ℕ) → length q ≡ n → n ≤ length s → n ≤ 65535
