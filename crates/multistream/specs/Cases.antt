@@ -1,8 +1,10 @@
--- Document 01, 'Cases at the edges': those on pad, unpad and streams, and all of them together.
+-- Document 01, 'Cases at the edges': those on pad, unpad and streams; the order of refusals; and all cases together.
 use Prim.Native.Nat.{ℕ}
 use mathlib.Core.List.{List, [], _∷_, _++_}
 use lib.IntN.{ℤ, pos, negsuc}
 use lib.ListN.{replicate}
+use Rattle.opus_defines.specs.Outcome.{Outcome}
+use Rattle.opus_size.specs.Answers.{encodeSize}
 use Rattle.opus.specs.Cases.{Shown, outcome, Case, shows, readingCases}
 use Rattle.packet_pad.specs.Pad.{padded}
 use Rattle.packet_pad.specs.Unpad.{unpadded}
@@ -40,5 +42,60 @@ rebuiltCases =
     ∷ shows (outcome (streamsUnpadded (0x00 ∷ 0x00 ∷ 0x00 ∷ []) (pos 3) (pos 2))) (leaves (pos 3) (0x00 ∷ 0x00 ∷ 0x00 ∷ []))
     ∷ []
 
+-- document 01's order of refusals: more than one fault at once, and the first one in the order gives the number. The packet 03 00 cannot be read.
+-- What a refusal, or 0 without reading, leaves is the buffer as it was.
+abbrev pub unreadable : List ℕ
+unreadable = 0x03 ∷ 0x00 ∷ []
+
+abbrev pub keeps : Outcome → ℤ → List ℕ → Case
+keeps o n s = shows (outcome o) (leaves n s)
+
+abbrev pub lengthOrder : List Case
+lengthOrder =
+    -- too large, and no room; then no room
+    keeps (encodeSize (pos 1276) []) (negsuc 0) []
+    ∷ keeps (encodeSize (pos 252) (238 ∷ [])) (negsuc 1) (238 ∷ [])
+    ∷ []
+
+abbrev pub padOrder : List Case
+padOrder =
+    -- above the buffer, and equal; below 1, and equal; equal, and unreadable; above the new length, and unreadable; then unreadable
+    keeps (padded unreadable (pos 3) (pos 3)) (negsuc 0) unreadable
+    ∷ keeps (padded unreadable (pos 0) (pos 0)) (negsuc 0) unreadable
+    ∷ keeps (padded unreadable (negsuc 0) (negsuc 0)) (negsuc 0) unreadable
+    ∷ keeps (padded unreadable (pos 2) (pos 2)) (pos 0) unreadable
+    ∷ keeps (padded unreadable (pos 2) (pos 1)) (negsuc 0) unreadable
+    ∷ keeps (padded (0x03 ∷ 0x00 ∷ 0x00 ∷ []) (pos 2) (pos 3)) (negsuc 3) (0x03 ∷ 0x00 ∷ 0x00 ∷ [])
+    ∷ []
+
+abbrev pub unpadOrder : List Case
+unpadOrder =
+    -- above the buffer, and unreadable; below 1, and unreadable; then unreadable
+    keeps (unpadded unreadable (pos 3)) (negsuc 0) unreadable
+    ∷ keeps (unpadded unreadable (pos 0)) (negsuc 0) unreadable
+    ∷ keeps (unpadded unreadable (pos 2)) (negsuc 3) unreadable
+    ∷ []
+
+abbrev pub streamsOrder : List Case
+streamsOrder =
+    -- above the buffer, with no stream; no stream, and below 1; no stream or 256, and equal; equal, and unreadable, with 255
+    keeps (streamsPadded unreadable (pos 3) (pos 3) (pos 0)) (negsuc 0) unreadable
+    ∷ keeps (streamsPadded unreadable (pos 0) (pos 0) (pos 0)) (negsuc 0) unreadable
+    ∷ keeps (streamsPadded unreadable (pos 2) (pos 2) (pos 0)) (negsuc 0) unreadable
+    ∷ keeps (streamsPadded unreadable (pos 2) (pos 2) (pos 256)) (negsuc 0) unreadable
+    ∷ keeps (streamsPadded unreadable (pos 2) (pos 2) (pos 255)) (pos 0) unreadable
+    -- below 1, and equal; above the new length, and unreadable; then unreadable, with 255; 256, and unreadable
+    ∷ keeps (streamsPadded unreadable (pos 0) (pos 0) (pos 255)) (negsuc 0) unreadable
+    ∷ keeps (streamsPadded unreadable (pos 2) (pos 1) (pos 255)) (negsuc 0) unreadable
+    ∷ keeps (streamsPadded (0x03 ∷ 0x00 ∷ 0x00 ∷ []) (pos 2) (pos 3) (pos 255)) (negsuc 3) (0x03 ∷ 0x00 ∷ 0x00 ∷ [])
+    ∷ keeps (streamsPadded (0x03 ∷ 0x00 ∷ 0x00 ∷ []) (pos 2) (pos 3) (pos 256)) (negsuc 0) (0x03 ∷ 0x00 ∷ 0x00 ∷ [])
+    -- unpad: above the buffer, no stream, 256, or below 1, and unreadable; then unreadable, with 255
+    ∷ keeps (streamsUnpadded unreadable (pos 3) (pos 1)) (negsuc 0) unreadable
+    ∷ keeps (streamsUnpadded unreadable (pos 2) (pos 0)) (negsuc 0) unreadable
+    ∷ keeps (streamsUnpadded unreadable (pos 2) (pos 256)) (negsuc 0) unreadable
+    ∷ keeps (streamsUnpadded unreadable (pos 0) (pos 1)) (negsuc 0) unreadable
+    ∷ keeps (streamsUnpadded unreadable (pos 2) (pos 255)) (negsuc 3) unreadable
+    ∷ []
+
 abbrev pub allCases : List Case
-allCases = readingCases ++ (padCases ++ rebuiltCases)
+allCases = readingCases ++ (padCases ++ (rebuiltCases ++ (lengthOrder ++ (padOrder ++ (unpadOrder ++ streamsOrder)))))

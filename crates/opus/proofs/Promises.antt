@@ -1,19 +1,21 @@
 -- What a buyer may count on when a packet is read: it is accepted exactly where a packet of RFC 6716 stands.
 -- Assumes nothing.
-use Prim.Native.Nat.{ℕ, _≤_}
+use Prim.Native.Nat.{ℕ, _≤_, _<_}
 use mathlib.Core.Path.{_≡_, refl, sym}
 use mathlib.Core.List.{List, _++_}
 use mathlib.Core.Bool.{Bool}
-use lib.IntN.{pos}
+use lib.IntN.{pos, negsuc}
 use lib.ListN.{length, take, drop, take-append-drop}
 use lib.Seq.{length-take-le}
-use borrow.Author.Tests.{le-ltb}
+use borrow.Author.Tests.{lt-ltb, le-ltb}
 use Rattle.laws.specs.Bytes.{Bytes}
+use Rattle.opus_defines.specs.declared.Rule.{Rule}
 use Rattle.opus_defines.specs.declared.Verdict.the-variants.{Accepted}
+use Rattle.opus_defines.proofs.Outcomes.{rule-number}
 use Rattle.opus_toc.specs.Toc.{upperSix, time}
 use Rattle.opus_format.specs.Frames.{cut}
 use Rattle.opus_format.specs.Format.{Spells, Behind}
-use Rattle.opus_format.specs.Reading.{read}
+use Rattle.opus_format.specs.Reading.{refused, read}
 use Rattle.opus.specs.Answers.{parsed, packetNumber}
 use Rattle.opus_format.proofs.Complete.{spelled-read}
 use Rattle.opus_format.proofs.Facts.{facts}
@@ -59,6 +61,14 @@ accepted-lasts sd p bytes v =
     let count : length (lengthsOf r) ≡ r .count = length-take-le (r .count) (r .lengths) (d .inside) in
     rw count at (facts sd p (r .toc) (lengthsOf r) (r .first) (r .taken) bytes (d .means) .short)
 
--- the number that is returned is then the count, and else -1 or -4
+-- the number that is returned is then the count; above 65,535 bytes it is -1, and else -4
 pub accepted-number : (sd : Bool) (p : List ℕ) → parsed sd p .verdict ≡ Accepted → packetNumber (parsed sd p) ≡ pos (parsed sd p .count)
 accepted-number sd p v = rw v
+
+pub too-long-number : (sd : Bool) (p : List ℕ) → 65535 < length p → packetNumber (parsed sd p) ≡ negsuc 0
+unfolding parsed
+too-long-number sd p h = rw (lt-ltb 65535 (length p) h)
+
+pub unreadable-number : (sd : Bool) (p : List ℕ) (rule : Rule) → length p ≤ 65535 → read sd p ≡ refused rule → packetNumber (parsed sd p) ≡ negsuc 3
+unfolding parsed
+unreadable-number sd p rule h r = rw (le-ltb 65535 (length p) h, r) (rule-number rule)

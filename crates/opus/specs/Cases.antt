@@ -3,11 +3,13 @@
 use Prim.Native.Nat.{ℕ}
 use mathlib.Core.List.{List, [], _∷_}
 use mathlib.Core.Bool.{true, false}
-use lib.IntN.{pos, negsuc}
+use lib.IntN.{ℤ, pos, negsuc}
 use lib.ListN.{length, replicate}
-use Rattle.opus_defines.specs.Outcome.{Outcome, refuses}
-use Rattle.opus_defines.specs.declared.Refusal.the-variants.{BadArg, InvalidPacket}
+use Rattle.opus_defines.specs.Numbers.{verdictNumber}
+use Rattle.opus_defines.specs.Outcome.{Outcome}
+use Rattle.opus_defines.specs.declared.Refusal.the-variants.{InvalidPacket}
 use Rattle.opus_defines.specs.declared.Verdict.the-variants.{Accepted}
+use Rattle.opus_toc.specs.Toc.{configuration, duration}
 use Rattle.opus_size.specs.Size.{lengthField}
 use Rattle.opus_size.specs.Answers.{encodeSize}
 use Rattle.opus_format.specs.Frames.{padded48}
@@ -17,7 +19,8 @@ use Rattle.opus.specs.declared.Packet.{Packet}
 -- what a case shows
 pub data Shown : Type 0 where
   field : List ℕ → Shown
-  packet : Packet → Shown
+  packet : ℤ → Packet → Shown
+  tenths : ℕ → Shown
   outcome : Outcome → Shown
 
 pub record Case : Type 0 where
@@ -27,13 +30,18 @@ pub record Case : Type 0 where
 abbrev pub shows : Shown → Shown → Case
 shows given said = record { gives = given; says = said }
 
+-- what reading answers: the number that the call returns, and the record
+abbrev pub reading : Packet → Shown
+reading p = packet (verdictNumber (pos (p .count)) (p .verdict)) p
+
 -- a packet that is read: TOC byte, lengths, first frame's place, bytes taken
 abbrev pub readAs : ℕ → List ℕ → ℕ → ℕ → Shown
 readAs toc ns first taken =
-    packet (record { verdict = Accepted; toc = toc; count = length ns; lengths = padded48 ns; first = first; taken = taken })
+    packet (pos (length ns)) (record { verdict = Accepted; toc = toc; count = length ns; lengths = padded48 ns; first = first; taken = taken })
 
+-- -4
 abbrev pub invalid : Shown
-invalid = packet (noPacket InvalidPacket)
+invalid = packet (negsuc 3) (noPacket InvalidPacket)
 
 abbrev pub readingCases : List Case
 readingCases =
@@ -41,16 +49,17 @@ readingCases =
     ∷ shows (field (lengthField 252)) (field (0xfc ∷ 0 ∷ []))
     ∷ shows (field (lengthField 1275)) (field (0xff ∷ 0xff ∷ []))
     ∷ shows (outcome (encodeSize (pos 1276) (238 ∷ 238 ∷ []))) (outcome (record { number = negsuc 0; bytes = 238 ∷ 238 ∷ [] }))
-    ∷ shows (packet (parsed false [])) invalid
-    ∷ shows (packet (parsed false (0 ∷ []))) (readAs 0 (0 ∷ []) 1 1)
-    ∷ shows (packet (parsed false (0x01 ∷ 0xaa ∷ []))) invalid
-    ∷ shows (packet (parsed false (0x1b ∷ 0x02 ∷ []))) (readAs 0x1b (0 ∷ 0 ∷ []) 2 2)
-    ∷ shows (packet (parsed false (0x1b ∷ 0x03 ∷ []))) invalid
-    ∷ shows (packet (parsed false (0x83 ∷ 0x30 ∷ []))) (readAs 0x83 (replicate 48 0) 2 2)
-    ∷ shows (packet (parsed false (0x83 ∷ 0x31 ∷ []))) invalid
-    ∷ shows (packet (parsed false (0x03 ∷ 0x00 ∷ []))) invalid
-    ∷ shows (packet (parsed false (0x03 ∷ 0x41 ∷ 0x00 ∷ []))) (readAs 0x03 (0 ∷ []) 3 3)
-    ∷ shows (packet (parsed false (0x03 ∷ 0x41 ∷ 0x01 ∷ []))) invalid
-    ∷ shows (packet (parsed false (0x03 ∷ 0x02 ∷ 0xaa ∷ 0xbb ∷ []))) (readAs 0x03 (1 ∷ 1 ∷ []) 2 4)
-    ∷ shows (packet (parsed true (0x00 ∷ 0x01 ∷ 0xaa ∷ 0x55 ∷ []))) (readAs 0x00 (1 ∷ []) 2 3)
+    ∷ shows (reading (parsed false [])) invalid
+    ∷ shows (reading (parsed false (0 ∷ []))) (readAs 0 (0 ∷ []) 1 1)
+    ∷ shows (reading (parsed false (0x01 ∷ 0xaa ∷ []))) invalid
+    ∷ shows (reading (parsed false (0x1b ∷ 0x02 ∷ []))) (readAs 0x1b (0 ∷ 0 ∷ []) 2 2)
+    ∷ shows (tenths (duration (configuration (parsed false (0x1b ∷ 0x02 ∷ []) .toc)))) (tenths 600)
+    ∷ shows (reading (parsed false (0x1b ∷ 0x03 ∷ []))) invalid
+    ∷ shows (reading (parsed false (0x83 ∷ 0x30 ∷ []))) (readAs 0x83 (replicate 48 0) 2 2)
+    ∷ shows (reading (parsed false (0x83 ∷ 0x31 ∷ []))) invalid
+    ∷ shows (reading (parsed false (0x03 ∷ 0x00 ∷ []))) invalid
+    ∷ shows (reading (parsed false (0x03 ∷ 0x41 ∷ 0x00 ∷ []))) (readAs 0x03 (0 ∷ []) 3 3)
+    ∷ shows (reading (parsed false (0x03 ∷ 0x41 ∷ 0x01 ∷ []))) invalid
+    ∷ shows (reading (parsed false (0x03 ∷ 0x02 ∷ 0xaa ∷ 0xbb ∷ []))) (readAs 0x03 (1 ∷ 1 ∷ []) 2 4)
+    ∷ shows (reading (parsed true (0x00 ∷ 0x01 ∷ 0xaa ∷ 0x55 ∷ []))) (readAs 0x00 (1 ∷ []) 2 3)
     ∷ []
