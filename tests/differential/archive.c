@@ -73,7 +73,7 @@ static void collect(Collection *c) {
     free(store.at);
 }
 
-static int in_place(int kind, Bytes buffer, int32_t len, int32_t new_len, int32_t streams) {
+static int call_in_place(int kind, Bytes buffer, int32_t len, int32_t new_len, int32_t streams) {
     if (kind == PAD) {
         return aveluafi_packet_pad(buffer.at, buffer.len, len, new_len);
     }
@@ -84,6 +84,20 @@ static int in_place(int kind, Bytes buffer, int32_t len, int32_t new_len, int32_
         return aveluafi_multistream_packet_pad(buffer.at, buffer.len, len, new_len, streams);
     }
     return aveluafi_multistream_packet_unpad(buffer.at, buffer.len, len, streams);
+}
+
+// The call is lent more bytes than its lengths say, and must leave those.
+static int in_place(int kind, Bytes buffer, int32_t len, int32_t new_len, int32_t streams) {
+    enum { BEHIND = 9 };
+    Bytes lent = block(buffer.len + BEHIND, 0xdd);
+    memcpy(lent.at, buffer.at, buffer.len);
+    int n = call_in_place(kind, lent, len, new_len, streams);
+    for (int i = 0; i < BEHIND; i++) {
+        require(lent.at[buffer.len + i] == 0xdd, "a call in place has written behind the lengths it was given");
+    }
+    memcpy(buffer.at, lent.at, buffer.len);
+    free(lent.at);
+    return n;
 }
 
 static int write_length(int32_t size, Bytes out) {

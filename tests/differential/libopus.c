@@ -44,7 +44,7 @@ static void collect(Collection *c) {
     free(rp);
 }
 
-// After a refusal the buffer is as it was.
+// After a refusal, but for unpad's, which is compared byte for byte, the buffer is as it was.
 static int in_place(int kind, Bytes buffer, int32_t len, int32_t new_len, int32_t streams) {
     if (buffer.len > MOST || streams < 1 || streams > 255) {
         return -1;
@@ -61,7 +61,7 @@ static int in_place(int kind, Bytes buffer, int32_t len, int32_t new_len, int32_
     } else {
         n = opus_multistream_packet_unpad(buffer.at, len, streams);
     }
-    if (n < 0) {
+    if (n < 0 && kind != UNPAD) {
         memcpy(buffer.at, old.at, old.len);
     }
     free(old.at);

@@ -3,7 +3,8 @@
 //
 // Written here, from document 01: the frame count, whose text the crate does not give; the bounds outside which the crate would touch memory
 // that is not its own, or which the port adds (size, room, rate, 65,535 bytes, 1 to 255 streams). After a refused pad, multistream pad or
-// multistream unpad the crate has moved bytes already, and only the number is compared: the line then has the buffer as it was.
+// multistream unpad the crate has moved bytes already, and only the number is compared: the line then has the buffer as it was. A refused unpad is
+// compared byte for byte. A call in place is lent more bytes than it is told of, and must leave those.
 #![allow(unused, non_snake_case, non_camel_case_types, static_mut_refs, dead_code)]
 
 #[path = "CRATE_FOLDER/src/externs.rs"]
@@ -82,6 +83,8 @@ impl Input {
 }
 
 const MOST: usize = 65535;
+// bytes behind those that a call in place is told of
+const BEHIND: usize = 9;
 
 fn hex(line: &mut String, b: &[u8]) {
     if b.is_empty() {
@@ -148,16 +151,20 @@ unsafe fn collect(line: &mut String, delim: bool, pad: bool, begin: i32, end: i3
 }
 
 // The buffer of a call that works in place; after a refusal it is shown as it was.
-unsafe fn in_place(line: &mut String, packet: &[u8], size: usize, over: bool, f: impl Fn(*mut u8, i32) -> i32) {
+// `moves`: a refusal of the crate's may have moved bytes.
+unsafe fn in_place(line: &mut String, packet: &[u8], size: usize, over: bool, moves: bool, f: impl Fn(*mut u8, i32) -> i32) {
+    let len = size.max(packet.len());
     let mut old = packet.to_vec();
-    old.resize(size.max(packet.len()), 0);
+    old.resize(len, 0);
     let mut new = old.clone();
+    new.resize(len + BEHIND, 0xdd);
     let n = if over {
         -1
     } else {
         f(new.as_mut_ptr(), packet.len() as i32)
     };
-    number_and(line, n, if n < 0 { &old } else { &new });
+    assert!(new[len..].iter().all(|b| *b == 0xdd), "the crate has written behind the lengths it was given");
+    number_and(line, n, if n < 0 && moves { &old } else { &new[..len] });
 }
 
 unsafe fn answer(i: &mut Input, kind: u8, line: &mut String) -> Option<()> {
@@ -179,24 +186,24 @@ unsafe fn answer(i: &mut Input, kind: u8, line: &mut String) -> Option<()> {
         3 => {
             let new = i.room()?;
             let p = i.bytes()?;
-            in_place(line, &p, new, p.len() > MOST || new > MOST, |b, len| opus_packet_pad(b, len, new as i32));
+            in_place(line, &p, new, p.len() > MOST || new > MOST, true, |b, len| opus_packet_pad(b, len, new as i32));
         }
         4 => {
             let p = i.bytes()?;
-            in_place(line, &p, 0, p.len() > MOST, |b, len| opus_packet_unpad(b, len));
+            in_place(line, &p, 0, p.len() > MOST, false, |b, len| opus_packet_unpad(b, len));
         }
         5 => {
             let streams = i.i32()?;
             let new = i.room()?;
             let p = i.bytes()?;
             let over = p.len() > MOST || new > MOST || !(1..=255).contains(&streams);
-            in_place(line, &p, new, over, |b, len| opus_multistream_packet_pad(b, len, new as i32, streams));
+            in_place(line, &p, new, over, true, |b, len| opus_multistream_packet_pad(b, len, new as i32, streams));
         }
         6 => {
             let streams = i.i32()?;
             let p = i.bytes()?;
             let over = p.len() > MOST || !(1..=255).contains(&streams);
-            in_place(line, &p, 0, over, |b, len| opus_multistream_packet_unpad(b, len, streams));
+            in_place(line, &p, 0, over, true, |b, len| opus_multistream_packet_unpad(b, len, streams));
         }
         7 => {
             let size = i.i32()?;
