@@ -16,26 +16,30 @@ Inv-loop s₀ from to n end last i₀ s i = (i ≤ n) × ((s ≡ moved s₀ from
 abbrev μ-loop : tie.MeasureT-loop
 μ-loop s₀ from to n end last i₀ s i = n - i
 
+abbrev entry : tie.After-copy-bytes Inv-loop μ-loop → tie.Start Inv-loop μ-loop
+entry c = c .before .before .before .before .before
+
 loop-again : tie.Need-loop-again Inv-loop μ-loop
 loop-again c =
-    let p = c .before .before .move-piece in
-    let l = c .before .before .before .before .before in
-    let a = l .before .before .before .before .before .before .before .args in (
+    let p = c .before .before in
+    let l = p .before .before .before in
+    let a = entry (l .before .before) .args in (
       omega arith,
       (
-        moved-next (a .s .now) (a .from) (a .to) (l .loop .i) 32 (l .loop .inv .1 .0) (p .ensures) (omega arith) (omega arith),
-        omega (arith, p .kept .0),
+        moved-next (a .s .now) (a .from) (a .to) (l .loop .i) 32 (l .loop .inv .1 .0) (p .move-piece .ensures) (omega arith) (omega arith),
+        omega (arith, p .move-piece .kept .0),
       ),
     )
 
 returns-2 : tie.Need-returns-2 Inv-loop μ-loop
 returns-2 c =
-    let l = c .before .before .before .before .before .before in
+    let p = c .before .before in
+    let l = p .before .before .before .before in
     let read = l .before .before in
-    let a = read .before .before .before .before .before .args in
+    let a = entry read .args in
     let end = a .n - 32 in
     let last =
-    held (replicate 32 0) (l .loop .s) (a .to + end) (a .s .now) (a .from + end) 32 (read .copy-bytes .ensures) (c .before .before .copy-bytes2 .ensures)
+    held (replicate 32 0) (l .loop .s) (a .to + end) (a .s .now) (a .from + end) 32 (read .copy-bytes .ensures) (p .copy-bytes2 .ensures)
     (omega arith) (omega arith) in
     copied-more (a .s .now) (a .to) (a .s .now) (a .from) (l .loop .i) end 32 (a .n) (l .loop .inv .1 .0) last (omega arith) (omega arith) (omega arith)
     (omega arith)

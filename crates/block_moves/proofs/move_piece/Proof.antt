@@ -9,9 +9,10 @@ use Rattle.block_moves.proofs.move_piece.Tie as tie
 
 returns : tie.Need-returns
 returns c =
-    let read = c .before .before .before .before .before .before in
+    let put = c .before .before in
+    let read = put .before .before .before .before in
     let a = read .before .before .before .before .args in
-    held (replicate 64 0) (a .s .now) (a .to) (a .s .now) (a .from) (a .k) (read .copy-bytes .ensures) (c .before .before .copy-bytes2 .ensures)
+    held (replicate 64 0) (a .s .now) (a .to) (a .s .now) (a .from) (a .k) (read .copy-bytes .ensures) (put .copy-bytes2 .ensures)
     (omega arith) (omega arith)
 
 pub move-piece-spec : {M : Type 1} → statement M

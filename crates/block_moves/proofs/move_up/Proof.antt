@@ -16,32 +16,36 @@ Inv-loop s₀ from to n first i₀ s i = (i ≤ n) × ((s ≡ moved s₀ (from +
 abbrev μ-loop : tie.MeasureT-loop
 μ-loop s₀ from to n first i₀ s i = i
 
+abbrev entry : tie.After-copy-bytes Inv-loop μ-loop → tie.Start Inv-loop μ-loop
+entry c = c .before .before .before .before .before
+
 loop-holds : tie.Need-loop-holds Inv-loop μ-loop
 loop-holds c =
-    let a = c .before .before .before .before .before .before .args in
+    let a = entry (c .before) .args in
     (omega arith, (copied-none (a .s .now) (a .to + a .n) (a .s .now) (a .from + a .n) (a .n - a .n) (omega arith), refl))
 
 loop-again : tie.Need-loop-again Inv-loop μ-loop
 loop-again c =
-    let p = c .before .before .move-piece in
-    let l = c .before .before .before .before .before in
+    let p = c .before .before in
+    let l = p .before .before .before in
     let i = l .loop .i in
-    let a = l .before .before .before .before .before .before .before .args in (
+    let a = entry (l .before .before) .args in (
       omega arith,
       (
         moved-prev (a .s .now) (a .from + (i - 32)) (a .to + (i - 32)) (a .n - (i - 32)) (a .from + i) (a .to + i) (a .n - i) 32 (l .loop .inv .1 .0)
-            (p .ensures) (omega arith) (omega arith) (omega arith) (omega arith) (omega arith),
-        omega (arith, p .kept .0),
+            (p .move-piece .ensures) (omega arith) (omega arith) (omega arith) (omega arith) (omega arith),
+        omega (arith, p .move-piece .kept .0),
       ),
     )
 
 returns-2 : tie.Need-returns-2 Inv-loop μ-loop
 returns-2 c =
-    let l = c .before .before .before .before .before .before in
+    let p = c .before .before in
+    let l = p .before .before .before .before in
     let read = l .before .before in
-    let a = read .before .before .before .before .before .args in
+    let a = entry read .args in
     let first =
-    held (replicate 32 0) (l .loop .s) (a .to) (a .s .now) (a .from) 32 (read .copy-bytes .ensures) (c .before .before .copy-bytes2 .ensures) (omega arith)
+    held (replicate 32 0) (l .loop .s) (a .to) (a .s .now) (a .from) 32 (read .copy-bytes .ensures) (p .copy-bytes2 .ensures) (omega arith)
     (omega arith) in
     copied-less (a .s .now) (a .to) (a .s .now) (a .from) (l .loop .i) 32 (a .n) (l .loop .inv .1 .0) first (omega arith) (omega arith) (omega arith)
 

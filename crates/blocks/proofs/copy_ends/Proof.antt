@@ -9,10 +9,11 @@ use Rattle.blocks.proofs.copy_ends.Tie as tie
 
 returns : tie.Need-returns
 returns c =
-    let first = c .before .before .before .before .before .before in
+    let last = c .before .before in
+    let first = last .before .before .before .before in
     let a = first .before .before .before .before .args in
     copied-more (a .dst .now) (a .at) (a .src .now) (a .from) (a .k) (a .n - a .k) (a .k) (a .n) (first .copy-piece .ensures)
-    (c .before .before .copy-piece2 .ensures) (omega arith) (omega arith) (omega arith) (omega arith)
+    (last .copy-piece2 .ensures) (omega arith) (omega arith) (omega arith) (omega arith)
 
 pub copy-ends-spec : {M : Type 1} → statement M
 copy-ends-spec =

@@ -18,24 +18,25 @@ abbrev μ-loop : tie.MeasureT-loop
 
 loop-again : tie.Need-loop-again Inv-loop μ-loop
 loop-again c =
-    let p = c .before .before .copy-piece in
-    let l = c .before .before .before .before .before in
+    let p = c .before .before in
+    let l = p .before .before .before in
     let i = l .loop .i in
     let a = l .before .before .before .before .args in (
       omega arith,
       (
-        copied-more (a .dst .now) (a .at) (a .src .now) (a .from) i i 32 (i + 32) (l .loop .inv .1 .0) (p .ensures) (omega arith) (omega arith)
+        copied-more (a .dst .now) (a .at) (a .src .now) (a .from) i i 32 (i + 32) (l .loop .inv .1 .0) (p .copy-piece .ensures) (omega arith) (omega arith)
             (omega arith) (omega arith),
-        omega (arith, p .kept .0),
+        omega (arith, p .copy-piece .kept .0),
       ),
     )
 
 returns-2 : tie.Need-returns-2 Inv-loop μ-loop
 returns-2 c =
-    let l = c .before .before .before .before .before in
+    let p = c .before .before in
+    let l = p .before .before .before in
     let a = l .before .before .before .before .args in
     copied-more (a .dst .now) (a .at) (a .src .now) (a .from) (l .loop .i) (a .n - 32) 32 (a .n) (l .loop .inv .1 .0)
-    (c .before .before .copy-piece2 .ensures) (omega arith) (omega arith) (omega arith) (omega arith)
+    (p .copy-piece2 .ensures) (omega arith) (omega arith) (omega arith) (omega arith)
 
 pub copy-into-spec : {M : Type 1} → statement M
 copy-into-spec =

@@ -104,10 +104,10 @@ module _ (t : ℕ) where
 
   seek-mark-record-at-requires : seek-mark-lts.Need-record-at-requires seek-mark-calls seek-mark-given seek-mark.Post Inv μ-loop
   seek-mark-record-at-requires c κs =
-      let place = c .before .before .before .loop .place in
-      let s = c .before .before .before .before .before .before .args .«data» .now in
+      let l = c .before .before .before in
+      let s = l .before .before .before .args .«data» .now in
       let n = c .before .packet-length in
-      omega (arith, one-stands s place (n .result) (n .ensures) (c .if1 .taken))
+      omega (arith, one-stands s (l .loop .place) (n .result) (n .ensures) (c .if1 .taken))
 
   seek-mark-returns : seek-mark-lts.Need-returns seek-mark-calls seek-mark-given seek-mark.Post Inv μ-loop
   seek-mark-returns c = c .record-at .ensures ∙ sym (c .before .before .before .before .loop .inv .1)
@@ -123,8 +123,9 @@ module _ (t : ℕ) where
 
   seek-mark-loop-again : seek-mark-lts.Need-loop-again seek-mark-calls seek-mark-given seek-mark.Post Inv μ-loop
   seek-mark-loop-again c =
-      let l = c .before .before .before .before .loop in
-      let s = c .before .before .before .before .before .before .before .args .«data» .now in
+      let i = c .before .before .before .before in
+      let l = i .loop in
+      let s = i .before .before .before .args .«data» .now in
       let n = c .before .before .packet-length in
       let f = c .find2 in (
         omega (arith, f .ensures .0, f .ensures .1),

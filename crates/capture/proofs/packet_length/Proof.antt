@@ -17,14 +17,18 @@ returns-2 c =
     let a = c .before .before .before .args in
     sym (length-cut (a .«data» .now) (a .at) (omega arith))
 
+abbrev entry : tie.Else2 → tie.Start
+entry c = c .before .before .before
+
 returns-3 : tie.Need-returns-3
 returns-3 c =
-    let a = c .before .before .before .before .before .args in
+    let a = entry (c .before .before) .args in
     sym (length-first (a .«data» .now) (a .at) (c .if3 .taken))
 
 returns-4 : tie.Need-returns-4
 returns-4 c =
-    let a = c .before .before .before .before .before .before .before .args in
+    let t = c .before .before in
+    let a = entry (t .before .before) .args in
     sym (length-second (a .«data» .now) (a .at) (c .if4 .taken))
 
 mul-n : tie.Need-mul-n
@@ -35,15 +39,18 @@ add-n c = omega arith
 
 returns-5 : tie.Need-returns-5
 returns-5 c =
-    let a = c .before .before .before .before .before .before .before .before .before .before .before .before .args in
+    let f = c .before .before .before .before .before in
+    let t = f .before .before in
+    let a = entry (t .before .before) .args in
     sym (length-cut (a .«data» .now) (a .at) (omega arith))
 
 returns-6 : tie.Need-returns-6
 returns-6 c =
-    let a = c .before .before .before .before .before .before .before .before .before .before .before .before .args in
+    let f = c .before .before .before .before .before in
+    let t = f .before .before in
+    let a = entry (t .before .before) .args in
     cc
-    (length-whole (a .«data» .now) (a .at) (c .before .before .before .before .before .before .before .if3 .left)
-    (c .before .before .before .before .before .if4 .left) (omega arith))
+    (length-whole (a .«data» .now) (a .at) (t .if3 .left) (f .if4 .left) (omega arith))
 
 pub packet-length-spec : {M : Type 1} → statement M
 packet-length-spec =

@@ -31,17 +31,20 @@ slice-aggregate-text c = c .before .before .put-lines .ensures .1 .1 .1 .1
 
 loop-less : tie.Need-loop-less Inv-loop μ-loop
 loop-less c =
-    let p = c .before .before .before .put-lines in
-    let l = c .before .before .before .before .before .before .loop in
-    let a = c .before .before .before .before .before .before .before .before .args in
-    ends-less (a .«data» .now) (l .at) (l .out) (p .ensures .1 .1 .0) (omega (arith, l .inv)) (c .before .before .before .before .before .loop-test .taken)
+    let p = c .before .before .before in
+    let i = p .before .before in
+    let l = i .before in
+    let a = l .before .before .args in
+    ends-less (a .«data» .now) (l .loop .at) (l .loop .out) (p .put-lines .ensures .1 .1 .0) (omega (arith, l .loop .inv)) (i .loop-test .taken)
 
 loop-again : tie.Need-loop-again Inv-loop μ-loop
 loop-again c =
-    let p = c .before .before .before .put-lines in
-    let l = c .before .before .before .before .before .before .loop in
-    let a = c .before .before .before .before .before .before .before .before .args in
-    ap length (p .ensures .0) ∙ (length-sets (l .out) 0 (partFrom (a .«data» .now) (l .at) (length (l .out)) .text) ∙ l .inv)
+    let p = c .before .before .before in
+    let i = p .before .before in
+    let l = i .before in
+    let a = l .before .before .args in
+    ap length (p .put-lines .ensures .0)
+    ∙ (length-sets (l .loop .out) 0 (partFrom (a .«data» .now) (l .loop .at) (length (l .loop .out)) .text) ∙ l .loop .inv)
 
 pub print-spec : {M : Type 1} → statement M
 print-spec =

@@ -15,6 +15,16 @@ Inv-loop «data» start out₀ at₀ n₀ out at n = Filled «data» start out�
 abbrev μ-loop : tie.MeasureT-loop
 μ-loop «data» start out₀ at₀ n₀ out at n = length «data» - at
 
+-- where the record was read, the turn that it was read in, and the entry
+abbrev read : tie.Else1 Inv-loop μ-loop → tie.After-next-record Inv-loop μ-loop
+read c = c .before .before
+
+abbrev turn : tie.Else1 Inv-loop μ-loop → tie.At-loop Inv-loop μ-loop
+turn c = read c .before .before
+
+abbrev entry : tie.Else1 Inv-loop μ-loop → tie.Start Inv-loop μ-loop
+entry c = turn c .before .before .before
+
 loop-holds : tie.Need-loop-holds Inv-loop μ-loop
 loop-holds c = let a = c .before .before .args in filled-start (a .«data» .now) (a .start) (a .out .now)
 
@@ -31,35 +41,36 @@ returns c =
 
 add-at : tie.Need-add-at Inv-loop μ-loop
 add-at c =
-    let r = c .before .before .before .next-record in
-    omega (arith, turn-inside (c .before .before .before .before .before .loop .inv) (r .result) (r .ensures) (c .before .if1 .left))
+    let i = c .before in
+    let r = read i .next-record in
+    omega (arith, turn-inside (turn i .loop .inv) (r .result) (r .ensures) (i .if1 .left))
 
 add-at-2 : tie.Need-add-at-2 Inv-loop μ-loop
 add-at-2 c =
-    let r = c .before .before .before .before .next-record in
-    omega (arith, turn-inside (c .before .before .before .before .before .before .loop .inv) (r .result) (r .ensures) (c .before .before .if1 .left))
+    let i = c .before .before in
+    let r = read i .next-record in
+    omega (arith, turn-inside (turn i .loop .inv) (r .result) (r .ensures) (i .if1 .left))
 
 put-line-requires : tie.Need-put-line-requires Inv-loop μ-loop
 put-line-requires c κs =
-    let r = c .before .before .before .before .before .next-record in
-    let s = c .before .before .before .before .before .before .before .before .before .before in
-    turn-room (c .before .before .before .before .before .before .before .loop .inv) (r .result) (r .ensures) (c .before .before .before .if1 .left)
-    (s .pre) (omega arith) (omega arith)
+    let i = c .before .before .before in
+    let r = read i .next-record in
+    turn-room (turn i .loop .inv) (r .result) (r .ensures) (i .if1 .left) (entry i .pre) (omega arith) (omega arith)
 
 loop-less : tie.Need-loop-less Inv-loop μ-loop
 loop-less c =
-    let r = c .before .before .before .before .before .before .before .before .next-record in
-    turn-less (c .before .before .before .before .before .before .before .before .before .before .loop .inv) (r .result) (r .ensures)
-    (c .before .before .before .before .before .before .if1 .left)
+    let p = c .before .before in
+    let i = p .before .before .before .before in
+    let r = read i .next-record in
+    turn-less (turn i .loop .inv) (r .result) (r .ensures) (i .if1 .left)
 
 loop-again : tie.Need-loop-again Inv-loop μ-loop
 loop-again c =
-    let p = c .before .before .put-line in
-    let r = c .before .before .before .before .before .before .before .before .next-record in
-    let s = c .before .before .before .before .before .before .before .before .before .before .before .before .before in
-    filled-more (c .before .before .before .before .before .before .before .before .before .before .loop .inv) (r .result) (r .ensures)
-    (c .before .before .before .before .before .before .if1 .left) (s .pre) (omega arith) (omega arith)
-    (record { bytes = p .ensures .0; place = p .ensures .1 })
+    let p = c .before .before in
+    let i = p .before .before .before .before in
+    let r = read i .next-record in
+    filled-more (turn i .loop .inv) (r .result) (r .ensures) (i .if1 .left) (entry i .pre) (omega arith) (omega arith)
+    (record { bytes = p .put-line .ensures .0; place = p .put-line .ensures .1 })
 
 same-length-2 : tie.Need-same-length-2 Inv-loop μ-loop
 same-length-2 c = filled-length (c .before .loop .inv)

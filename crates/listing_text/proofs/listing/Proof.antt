@@ -13,11 +13,15 @@ use Rattle.listing_text.proofs.Answers.{answers, small, Read, listing-r
 use Rattle.listing_text.proofs.listing.Statement.{statement}
 use Rattle.listing_text.proofs.listing.Tie as tie
 
+abbrev entry : tie.After-opus-packet-parse → tie.Start
+entry c = c .before .before .before
+
 put-refused-requires : tie.Need-put-refused-requires
 put-refused-requires c κs =
     let t = c .before .before in
-    let r = t .before .before .opus-packet-parse in
-    let s = t .before .before .before .before .before in
+    let q = t .before .before in
+    let r = q .opus-packet-parse in
+    let s = entry q in
     refused-room (r .result) _ (t .enum-told2 .given .1) (c .verdict-number .result) (c .verdict-number .ensures) (s .args .out .now) (s .pre)
 
 returns : tie.Need-returns
@@ -25,8 +29,9 @@ returns c =
     let p = c .before .before .put-refused in
     let n = c .before .before .before in
     let t = n .before .before in
-    let r = t .before .before .opus-packet-parse in
-    let s = t .before .before .before .before .before in
+    let q = t .before .before in
+    let r = q .opus-packet-parse in
+    let s = entry q in
     let a = s .args in
     answers (a .out .now) (a .«data» .now) (refusal (toZ w32 (ofZ w32 (n .verdict-number .result))))
     (listing-refused (r .result) _ (t .enum-told2 .given .1) (n .verdict-number .result) (n .verdict-number .ensures) (a .«data» .now) (r .ensures))
@@ -34,11 +39,11 @@ returns c =
     (p .ensures .0) (p .ensures .1)
 
 -- an accepted packet
-reading : (c : tie.After-enum-told) → let r = c .before .before in Read (r .before .before .before .args .«data» .now) (r .opus-packet-parse .result)
+reading : (c : tie.After-enum-told) → let r = c .before .before in Read (entry r .args .«data» .now) (r .opus-packet-parse .result)
 reading c =
     let r = c .before .before in
     let k = r .before .before in
-    listing-read (k .before .args .«data» .now) (r .opus-packet-parse .result) (record { byte = λ i. k .shared-slice-known .given i .fits })
+    listing-read (entry r .args .«data» .now) (r .opus-packet-parse .result) (record { byte = λ i. k .shared-slice-known .given i .fits })
     (r .opus-packet-parse .ensures) (c .enum-told .given .1)
 
 array-share-prefix-lengths : tie.Need-array-share-prefix-lengths
@@ -50,17 +55,18 @@ slice-aggregate-put-packet c = sym (length-take-le _ _ (reading (c .before .befo
 put-packet-requires : tie.Need-put-packet-requires
 put-packet-requires c κs =
     let t = c .before .before .before in
-    let s = t .before .before .before .before .before in
+    let s = entry (t .before .before) in
     (reading t .some, (reading t .places, omega (arith, reading t .room, s .pre)))
 
 returns-2 : tie.Need-returns-2
 returns-2 c =
-    let p = c .before .before .put-packet in
-    let t = c .before .before .before .before .before .before in
-    let r = t .before .before .opus-packet-parse .result in
-    let s = t .before .before .before .before .before in
+    let p = c .before .before in
+    let t = p .before .before .before .before in
+    let q = t .before .before in
+    let r = q .opus-packet-parse .result in
+    let s = entry q in
     answers (s .args .out .now) (s .args .«data» .now) (packetText (r .toc) (lengthsOf r) (r .first) (r .taken) (small r))
-    (reading t .text) (omega (arith, reading t .room, s .pre)) (p .ensures .0) (p .ensures .1)
+    (reading t .text) (omega (arith, reading t .room, s .pre)) (p .put-packet .ensures .0) (p .put-packet .ensures .1)
 
 pub listing-spec : {M : Type 1} → statement M
 listing-spec =

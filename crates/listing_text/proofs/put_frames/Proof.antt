@@ -17,28 +17,31 @@ Inv-loop out₀ at first ns next₀ place₀ i₀ out next place i = Put out₀ 
 abbrev μ-loop : tie.MeasureT-loop
 μ-loop out₀ at first ns next₀ place₀ i₀ out next place i = length ns - i
 
+-- the turn of the loop, and the entry
+abbrev turn : tie.After-wide Inv-loop μ-loop → tie.At-loop Inv-loop μ-loop
+turn c = c .before .before .before
+
+abbrev entry : tie.After-wide Inv-loop μ-loop → tie.Start Inv-loop μ-loop
+entry c = turn c .before .before .before
+
 loop-holds : tie.Need-loop-holds Inv-loop μ-loop
 loop-holds c = let a = c .before .before .args in put-start (a .out .now) (a .at) (a .first) (a .ns .now)
 
 put-frame-requires : tie.Need-put-frame-requires Inv-loop μ-loop
 put-frame-requires c κs =
-    let l = c .before .before .before .before .loop in
-    let s = c .before .before .before .before .before .before .before in
-    put-room (l .inv) (c .before .wide .ensures .0) (omega arith) (s .pre .1)
+    let w = c .before in
+    put-room (turn w .loop .inv) (w .wide .ensures .0) (omega arith) (entry w .pre .1)
 
 add-place : tie.Need-add-place Inv-loop μ-loop
 add-place c =
-    let w = c .before .before .before .before .wide in
-    let l = c .before .before .before .before .before .before .before .loop in
-    let s = c .before .before .before .before .before .before .before .before .before .before in
-    omega (arith, put-place (l .inv) (w .ensures .0) (omega arith) (s .pre .0))
+    let w = c .before .before .before .before in
+    omega (arith, put-place (turn w .loop .inv) (w .wide .ensures .0) (omega arith) (entry w .pre .0))
 
 loop-again : tie.Need-loop-again Inv-loop μ-loop
 loop-again c =
-    let p = c .before .before .put-frame in
-    let w = c .before .before .before .before .wide in
-    let l = c .before .before .before .before .before .before .before .loop in
-    put-more (l .inv) (w .ensures .0) (omega arith) (record { bytes = p .ensures .0; place = p .ensures .1 })
+    let p = c .before .before in
+    let w = p .before .before in
+    put-more (turn w .loop .inv) (w .wide .ensures .0) (omega arith) (record { bytes = p .put-frame .ensures .0; place = p .put-frame .ensures .1 })
 
 same-length : tie.Need-same-length Inv-loop μ-loop
 same-length c = put-length (c .before .loop .inv)

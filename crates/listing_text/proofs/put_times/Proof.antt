@@ -17,16 +17,26 @@ put-line-requires c κs =
     let a = s .args in
     first-room (times-parts (a .out .now) (a .toc) (a .ns .now) (t .time-48k .ensures) (s .pre .1))
 
+-- the way back from each line to the one before it, and from the first to the entry
+abbrev timed : tie.After-put-line → tie.After-time-48k
+timed c = c .before .before .before
+
+abbrev entry : tie.After-put-line → tie.Start
+entry c = timed c .before .before .before
+
+abbrev first : tie.After-put-line2 → tie.After-put-line
+first c = c .before .before .before .before .before
+
 -- what stands behind the first line, and behind the second
 one : (c : tie.After-put-line)
-    → let a = c .before .before .before .before .before .before .args in
+    → let a = entry c .args in
     Laid (a .out .now) 0 (line tocLabel (a .toc)) (c .put-line .last .0) (c .put-line .result)
 unfolding tocLabel
 one c = record { bytes = c .put-line .ensures .0; place = c .put-line .ensures .1 }
 
 two : (c : tie.After-put-line2)
-    → let p = c .before .before .before .before .before in
-    let a = p .before .before .before .before .before .before .args in
+    → let p = first c in
+    let a = entry p .args in
     Laid (p .put-line .last .0) (p .put-line .result) (line countLabel (length (a .ns .now))) (c .put-line2 .last .0) (c .put-line2 .result)
 unfolding countLabel
 two c = record { bytes = c .put-line2 .ensures .0; place = c .put-line2 .ensures .1 }
@@ -35,8 +45,8 @@ put-line-requires-2 : tie.Need-put-line-requires-2
 unfolding tocLabel countLabel
 put-line-requires-2 c κs =
     let p = c .before .before .before .before in
-    let t = p .before .before .before in
-    let s = t .before .before .before in
+    let t = timed p in
+    let s = entry p in
     let a = s .args in
     second-room (times-parts (a .out .now) (a .toc) (a .ns .now) (t .time-48k .ensures) (s .pre .1)) (one p)
 
@@ -44,24 +54,24 @@ put-line-requires-3 : tie.Need-put-line-requires-3
 unfolding tocLabel countLabel timeLabel
 put-line-requires-3 c κs =
     let q = c .before .before .before .before in
-    let p = q .before .before .before .before .before in
-    let t = p .before .before .before in
-    let s = t .before .before .before in
+    let p = first q in
+    let t = timed p in
+    let s = entry p in
     let a = s .args in
     third-room (times-parts (a .out .now) (a .toc) (a .ns .now) (t .time-48k .ensures) (s .pre .1)) (one p) (two q)
 
 returns : tie.Need-returns
 unfolding tocLabel countLabel timeLabel
 returns c =
-    let r = c .before .before .put-line3 in
-    let q = c .before .before .before .before .before .before .before in
-    let p = q .before .before .before .before .before in
-    let t = p .before .before .before in
-    let s = t .before .before .before in
+    let r = c .before .before in
+    let q = r .before .before .before .before .before in
+    let p = first q in
+    let t = timed p in
+    let s = entry p in
     let a = s .args in
     front-ends
     (three-laid (times-parts (a .out .now) (a .toc) (a .ns .now) (t .time-48k .ensures) (s .pre .1)) (one p) (two q)
-    (record { bytes = r .ensures .0; place = r .ensures .1 }))
+    (record { bytes = r .put-line3 .ensures .0; place = r .put-line3 .ensures .1 }))
 
 pub put-times-spec : {M : Type 1} → statement M
 put-times-spec =

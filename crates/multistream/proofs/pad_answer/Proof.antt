@@ -16,10 +16,13 @@ use Rattle.multistream.proofs.pad_answer.Tie as tie
 streams : (c : tie.After-streams-of) → streamsOf (c .before .before .args .nb-streams) ≡ c .streams-of .result
 streams c = let s = c .before .before in streams-told (s .args .nb-streams) (s .fits .nb-streams) (c .streams-of .ensures)
 
-told : {k : Lengths} (c : tie.After-lengths-of) → let a = c .before .before .before .before .before .args in c .lengths-of .result ≡ k
+abbrev entry : tie.After-lengths-of → tie.Start
+entry c = let i = c .before .before in i .before .before .before
+
+told : {k : Lengths} (c : tie.After-lengths-of) → let a = entry c .args in c .lengths-of .result ≡ k
     → lengthsOf (a .«data» .now) (a .len) (a .new-len) ≡ k
 told c e =
-    let s = c .before .before .before .before .before in
+    let s = entry c in
     let a = s .args in
     lengths-told (a .«data» .now) (a .len) (a .new-len) (s .fits .len) (s .fits .new-len) (c .lengths-of .ensures) e
 

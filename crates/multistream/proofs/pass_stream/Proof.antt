@@ -8,8 +8,9 @@ use Rattle.multistream.proofs.pass_stream.Tie as tie
 
 returns : tie.Need-returns
 returns c =
-    let r = c .before .before .read-into in
-    let a = c .before .before .before .before .before .args in
+    let b = c .before .before in
+    let r = b .read-into in
+    let a = b .before .before .before .args in
     pass-found (a .self-delimited) (a .«data» .now) (answerOf (r .result) (r .last .1 .1 .0)) (r .ensures) (c .enum-told .given .1)
 
 returns-2 : tie.Need-returns-2

@@ -32,7 +32,8 @@ returns c =
     (c .enum-told .given .1)
 
 next : (c : tie.After-known-told Inv-loop μ-loop)
-    → let i = c .before .before .before .before .before in
+    → let p = c .before .before .before in
+    let i = p .before .before in
     let l = i .before .loop in
     let a = i .before .before .before .args in
     Passing (a .«data» .now) (a .k) (l .at + c .before .p .given .0 .0) (l .i + 1)

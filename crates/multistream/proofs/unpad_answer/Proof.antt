@@ -15,9 +15,12 @@ use Rattle.multistream.proofs.unpad_answer.Tie as tie
 streams : (c : tie.After-streams-of) → streamsOf (c .before .before .args .nb-streams) ≡ c .streams-of .result
 streams c = let s = c .before .before in streams-told (s .args .nb-streams) (s .fits .nb-streams) (c .streams-of .ensures)
 
-told : (c : tie.After-length-of) → let a = c .before .before .before .before .before .args in lengthOf (a .«data» .now) (a .len) ≡ c .length-of .result
+abbrev entry : tie.After-length-of → tie.Start
+entry c = let i = c .before .before in i .before .before .before
+
+told : (c : tie.After-length-of) → let a = entry c .args in lengthOf (a .«data» .now) (a .len) ≡ c .length-of .result
 told c =
-    let s = c .before .before .before .before .before in
+    let s = entry c in
     length-told (s .args .«data» .now) (s .args .len) (s .fits .len) (c .length-of .ensures)
 
 returns : tie.Need-returns

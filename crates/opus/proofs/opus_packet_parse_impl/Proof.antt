@@ -8,15 +8,17 @@ use Rattle.opus.proofs.opus_packet_parse_impl.Tie as tie
 
 returns : tie.Need-returns
 returns c =
-    let r = c .before .before .read-into in
-    let a = c .before .before .before .before .before .args in
+    let p = c .before .before in
+    let r = p .read-into in
+    let a = p .before .before .before .args in
     lent-accepted (a .self-delimited) (a .«data» .now) (r .result) _ (r .ensures) (c .enum-told .given .1)
 
 returns-2 : tie.Need-returns-2
 returns-2 c =
     let b = c .before .before in
-    let r = b .before .before .read-into in
-    let a = b .before .before .before .before .before .args in
+    let p = b .before .before in
+    let r = p .read-into in
+    let a = p .before .before .before .args in
     c .no-packet .ensures ∙ lent-refused (a .self-delimited) (a .«data» .now) (r .result) _ (r .ensures) _ (b .v .given .1)
 
 pub opus-packet-parse-impl-spec : {M : Type 1} → statement M

@@ -23,7 +23,7 @@ returns-2 c =
     none-answered _ _ _ (c .broken-head2 .ensures) ∙ three-none (a .self-delimited) (a .«data» .now) (i .if1 .left) (c .before .if2 .taken)
 
 -- the first byte is a byte
-toc-byte : (c : tie.After-shared-slice-known3) → getD (c .before .before .before .before .before .args .«data» .now) 0 0 < 256
+toc-byte : (c : tie.After-shared-slice-known3) → let i = c .before in getD (i .before .before .before .before .args .«data» .now) 0 0 < 256
 toc-byte c = omega (arith, c .shared-slice-known3 .given 0)
 
 returns-3 : tie.Need-returns-3

@@ -13,26 +13,31 @@ use Rattle.opus.proofs.Lent.{none-answered}
 use Rattle.opus.proofs.read_body.Statement.{statement}
 use Rattle.opus.proofs.read_body.Tie as tie
 
+abbrev entry : tie.After-read-padding → tie.Start
+entry c = c .before .before .before .before
+
 returns : tie.Need-returns
 returns c =
     let b = c .before .before .before .before in
-    let a = b .before .before .before .before .args in
+    let a = entry b .args in
     none-answered _ _ _ (c .broken-head .ensures)
     ∙ (ap (λ (r : Rule). noPacket (ruleRefusal r)) (c .before .size-rule .ensures)
     ∙ body-unfit (a .self-delimited) (a .«data» .now) (a .count) (sym (b .read-padding .ensures) ∙ c .before .before .enum-told .given .1))
 
+abbrev padded : tie.After-known-told → tie.After-read-padding
+padded c = c .before .before .before
+
 -- the padding lengths and the padding lie within the packet
 room : (c : tie.After-known-told)
-    → 2 + c .before .padding .given .0 .1 .0 + c .before .padding .given .0 .0
-    ≤ length (c .before .before .before .before .before .before .before .args .«data» .now)
+    → 2 + c .before .padding .given .0 .1 .0 + c .before .padding .given .0 .0 ≤ length (entry (padded c) .args .«data» .now)
 room c =
-    let b = c .before .before .before in
-    let s = b .before .before .before .before in
+    let b = padded c in
+    let s = entry b in
     body-room (s .args .self-delimited) (s .args .«data» .now) (s .args .count) (s .pre .0 .0) _ _
     (sym (b .read-padding .ensures) ∙ c .before .padding .given .1)
 
 add-at : tie.Need-add-at
-add-at c = omega (arith, room c, c .before .before .before .before .before .before .before .pre .0)
+add-at c = omega (arith, room c, entry (padded c) .pre .0)
 
 sub-end : tie.Need-sub-end
 sub-end c = omega (arith, room c)
@@ -43,8 +48,8 @@ sub-frames-3 c = omega (arith, room c)
 packet-at-requires : tie.Need-packet-at-requires
 packet-at-requires c κs =
     let k = c .before .before .before .before in
-    let b = k .before .before .before in
-    let s = b .before .before .before .before in
+    let b = padded k in
+    let s = entry b in
     omega (
       arith,
       s .pre .0,
@@ -55,10 +60,11 @@ packet-at-requires c κs =
 
 returns-2 : tie.Need-returns-2
 returns-2 c =
-    let k = c .before .before .before .before .before in
-    let b = k .before .before .before in
-    let s = b .before .before .before .before in
-    let f = c .before .before .frames-3 in
+    let e = c .before .before in
+    let f = e .frames-3 in
+    let k = e .before .before .before in
+    let b = padded k in
+    let s = entry b in
     body-read (s .args .self-delimited) (s .args .«data» .now) (s .args .count) (s .pre .0 .0) (k .before .padding .given .0 .0)
     (k .before .padding .given .0 .1 .0)
     (sym (b .read-padding .ensures) ∙ k .before .padding .given .1) (s .pre .0 .2) (f .result) _ (f .ensures) (c .packet-at .result) (c .packet-at .ensures)

@@ -10,19 +10,22 @@ use Rattle.opus.proofs.read_packet.Tie as tie
 
 behind-toc-requires : tie.Need-behind-toc-requires
 behind-toc-requires c κs =
-    let s = c .before .before .before .before .before .before in
+    let m = c .before .before in
+    let s = m .before .before .before .before in
     let f = c .unequal-frames in
     omega (arith, s .pre .0, unequal-fits (s .args .self-delimited) (s .args .«data» .now) (s .pre .0 .0) 0 1 refl R2 (f .result) _ (f .ensures))
 
 behind-toc-requires-2 : tie.Need-behind-toc-requires-2
 behind-toc-requires-2 c κs =
-    let s = c .before .before .before .before .before .before in
+    let m = c .before .before in
+    let s = m .before .before .before .before in
     let f = c .equal-frames in
     omega (arith, s .pre .0, equal-fits (s .args .self-delimited) (s .args .«data» .now) (s .pre .0 .0) (f .result) _ (f .ensures))
 
 behind-toc-requires-3 : tie.Need-behind-toc-requires-3
 behind-toc-requires-3 c κs =
-    let s = c .before .before .before .before .before .before in
+    let m = c .before .before in
+    let s = m .before .before .before .before in
     let f = c .unequal-frames2 in
     omega (arith, s .pre .0, unequal-fits (s .args .self-delimited) (s .args .«data» .now) (s .pre .0 .0) 1 2 refl R4 (f .result) _ (f .ensures))
 

@@ -11,18 +11,21 @@ returns c = short-empty (c .before .before .args .«data» .now) (c .if1 .taken)
 
 returns-2 : tie.Need-returns-2
 returns-2 c =
-    let a = c .before .before .before .before .before .args in
-    short-read (a .«data» .now) (c .before .match .keys1) (omega arith) (c .one-frame .ensures)
+    let m = c .before in
+    let a = m .before .before .before .before .args in
+    short-read (a .«data» .now) (m .match .keys1) (omega arith) (c .one-frame .ensures)
 
 returns-3 : tie.Need-returns-3
 returns-3 c =
-    let a = c .before .before .before .before .before .args in
-    short-read (a .«data» .now) (c .before .match .keys2) (omega arith) (c .two-equal .ensures)
+    let m = c .before in
+    let a = m .before .before .before .before .args in
+    short-read (a .«data» .now) (m .match .keys2) (omega arith) (c .two-equal .ensures)
 
 returns-4 : tie.Need-returns-4
 returns-4 c =
-    let a = c .before .before .before .before .before .args in
-    short-read (a .«data» .now) (c .before .match .keys3) (omega arith) (c .two-unequal .ensures)
+    let m = c .before in
+    let a = m .before .before .before .before .args in
+    short-read (a .«data» .now) (m .match .keys3) (omega arith) (c .two-unequal .ensures)
 
 returns-5 : tie.Need-returns-5
 returns-5 c =

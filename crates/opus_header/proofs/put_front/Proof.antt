@@ -17,8 +17,9 @@ slice-write-data c =
 
 put-full-requires : tie.Need-put-full-requires
 put-full-requires c κs =
-    let f = c .before .before .form in
-    let a = c .before .before .before .before .before .args in
+    let m = c .before .before in
+    let f = m .form in
+    let a = m .before .before .before .args in
     omega (arith, full-front (upperSix (a .toc)) (a .count) (a .same) (a .form) (f .given .0 .0) (f .given .1))
 
 returns : tie.Need-returns
@@ -28,9 +29,11 @@ returns c =
 
 returns-2 : tie.Need-returns-2
 returns-2 c =
-    let f = c .before .before .before .before .before .form in
-    let a = c .before .before .before .before .before .before .before .before .args in
-    let p = c .before .before .put-full in
+    let e = c .before .before in
+    let p = e .put-full in
+    let m = e .before .before .before in
+    let f = m .form in
+    let a = m .before .before .before .args in
     put-either (a .«data» .now) (upperSix (a .toc)) (a .count) (a .same) (a .form) (f .given .0 .0) (p .ensures .0) (p .ensures .1) (f .given .1)
 
 pub put-front-spec : {M : Type 1} → statement M

@@ -20,28 +20,37 @@ put-front-requires c κs =
     let a = s .args in
     (s .pre .1 .0 .1, front-room (upperSix (a .toc)) (a .ns .now) (a .form) (a .m) (s .pre .0) (a .self-delimited) (a .«data» .now) (s .pre .1 .1))
 
+abbrev entry : tie.After-put-front → tie.Start
+entry c = c .before .before .before .before
+
 slice-aggregate-put-sizes : tie.Need-slice-aggregate-put-sizes
 slice-aggregate-put-sizes c =
-    let ns = c .before .before .before .before .before .before .before .before .before .args .ns .now in
+    let t = c .before .before in
+    let p = t .before .before .before in
+    let ns = entry p .args .ns .now in
     sym (length-take-le (length ns - 1) ns (omega arith))
 
 put-sizes-requires : tie.Need-put-sizes-requires
 put-sizes-requires c κs =
-    let s = c .before .before .before .before .before .before .before .before .before in
-    let p = c .before .before .before .before .before .put-front in
+    let t = c .before .before in
+    let f = t .before .before .before in
+    let p = f .put-front in
+    let s = entry f in
     let a = s .args in (
       omega (arith, longest-take (a .ns .now) (length (a .ns .now) - 1), s .pre .1 .0 .2),
       fields-room (upperSix (a .toc)) (a .ns .now) (a .form) (a .m) (s .pre .0) (a .«data» .now) (p .ensures .0) (p .ensures .1)
-          (not-true (a .m .same) (c .before .before .if1 .taken)) (a .self-delimited) (s .pre .1 .1) (p .kept .0),
+          (not-true (a .m .same) (t .if1 .taken)) (a .self-delimited) (s .pre .1 .1) (p .kept .0),
     )
 
 -- where the ways to the second `if` meet
 middle : (c : tie.Joined1)
-    → let a = c .before .before .before .before .before .before .before .args in
+    → let f = c .before .before .before in
+    let a = f .before .before .before .before .args in
     Middle (a .«data» .now) (upperSix (a .toc)) (a .ns .now) (a .form) (a .m) (c .if1 .«data») (c .if1 .at)
 middle c =
-    let s = c .before .before .before .before .before .before .before in
-    let p = c .before .before .before .put-front in
+    let f = c .before .before .before in
+    let p = f .put-front in
+    let s = f .before .before .before .before in
     let a = s .args in
     ⊎-elim
     (λ w. middle-differ (upperSix (a .toc)) (a .ns .now) (a .form) (a .m) (s .pre .0) (a .«data» .now) (p .ensures .0) (p .ensures .1)
@@ -53,26 +62,29 @@ middle c =
 put-size-requires : tie.Need-put-size-requires
 put-size-requires c κs =
     let j = c .before .before in
-    let s = j .before .before .before .before .before .before .before in
+    let s = entry (j .before .before .before) in
     own-room (middle j) (s .pre .0) (s .args .self-delimited) (c .before .if2 .taken) (s .pre .1 .0 .0) (s .pre .1 .0 .2) (s .pre .1 .1)
 
 same-length : tie.Need-same-length
-same-length c = c .before .before .put-size .kept .0 ∙ middle-length (middle (c .before .before .before .before .before))
+same-length c = let p = c .before .before in p .put-size .kept .0 ∙ middle-length (middle (p .before .before .before))
 
 returns : tie.Need-returns
 returns c =
-    let p = c .before .before .put-size in
-    let j = c .before .before .before .before .before in
-    let s = j .before .before .before .before .before .before .before in
-    put-own (middle j) (s .pre .0) (s .args .self-delimited) (c .before .before .before .before .if2 .taken) (p .ensures .0) (p .ensures .1)
+    let z = c .before .before in
+    let p = z .put-size in
+    let t = z .before .before in
+    let j = t .before in
+    let s = entry (j .before .before .before) in
+    put-own (middle j) (s .pre .0) (s .args .self-delimited) (t .if2 .taken) (p .ensures .0) (p .ensures .1)
 
 same-length-2 : tie.Need-same-length-2
 same-length-2 c = middle-length (middle (c .before))
 
 returns-2 : tie.Need-returns-2
 returns-2 c =
-    let s = c .before .before .before .before .before .before .before .before in
-    put-end (middle (c .before)) (s .pre .0) (s .args .self-delimited) (c .if2 .left)
+    let j = c .before in
+    let s = entry (j .before .before .before) in
+    put-end (middle j) (s .pre .0) (s .args .self-delimited) (c .if2 .left)
 
 pub put-header-spec : {M : Type 1} → statement M
 put-header-spec =

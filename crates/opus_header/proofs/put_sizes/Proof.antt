@@ -15,21 +15,23 @@ Inv-loop data₀ at ns next₀ i₀ «data» next i = Written data₀ at ns «da
 abbrev μ-loop : tie.MeasureT-loop
 μ-loop data₀ at ns next₀ i₀ «data» next i = length ns - i
 
+abbrev turn : tie.After-wide Inv-loop μ-loop → tie.At-loop Inv-loop μ-loop
+turn c = c .before .before .before .before
+
 loop-holds : tie.Need-loop-holds Inv-loop μ-loop
 loop-holds c = let a = c .before .before .args in written-start (a .«data» .now) (a .at) (a .ns .now)
 
 put-size-requires : tie.Need-put-size-requires Inv-loop μ-loop
 put-size-requires c κs =
-    let l = c .before .before .before .before .loop in
-    let s = c .before .before .before .before .before .before .before in
-    written-room (l .inv) (c .wide .ensures .0) (omega arith) (s .pre .0) (s .pre .1)
+    let l = turn c in
+    let s = l .before .before .before in
+    written-room (l .loop .inv) (c .wide .ensures .0) (omega arith) (s .pre .0) (s .pre .1)
 
 loop-again : tie.Need-loop-again Inv-loop μ-loop
 loop-again c =
-    let p = c .before .before .put-size in
-    let w = c .before .before .before .wide in
-    let l = c .before .before .before .before .before .before .before .loop in
-    written-more (l .inv) (w .ensures .0) (omega arith) (p .ensures .0) (p .ensures .1)
+    let p = c .before .before in
+    let w = p .before in
+    written-more (turn w .loop .inv) (w .wide .ensures .0) (omega arith) (p .put-size .ensures .0) (p .put-size .ensures .1)
 
 same-length : tie.Need-same-length Inv-loop μ-loop
 same-length c = written-length (c .before .loop .inv)

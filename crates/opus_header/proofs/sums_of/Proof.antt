@@ -18,26 +18,30 @@ Inv-loop ns first last total₀ fields₀ same₀ i₀ total fields same i = Cou
 abbrev μ-loop : tie.MeasureT-loop
 μ-loop ns first last total₀ fields₀ same₀ i₀ total fields same i = length ns - i
 
+abbrev entry : tie.At-loop Inv-loop μ-loop → tie.Start Inv-loop μ-loop
+entry c = c .before .before .before .before
+
 loop-holds : tie.Need-loop-holds Inv-loop μ-loop
 loop-holds c = counted-start (c .before .before .before .args .ns .now)
 
 add-total : tie.Need-add-total Inv-loop μ-loop
 add-total c =
-    let l = c .before .before .loop in
-    let s = c .before .before .before .before .before .before in
-    omega (arith, counted-small (l .inv) refl refl (c .before .loop-test .taken) (s .pre .2), s .pre .1)
+    let l = c .before .before in
+    let s = entry l in
+    omega (arith, counted-small (l .loop .inv) refl refl (c .before .loop-test .taken) (s .pre .2), s .pre .1)
 
 add-fields : tie.Need-add-fields Inv-loop μ-loop
 add-fields c =
-    let l = c .before .before .before .loop in
-    let s = c .before .before .before .before .before .before .before in
-    omega (arith, l .inv .few, l .inv .most, s .pre .1, c .field-bytes .ensures, width (getD (s .args .ns .now) (l .i) 0))
+    let l = c .before .before .before in
+    let s = entry l in
+    omega (arith, l .loop .inv .few, l .loop .inv .most, s .pre .1, c .field-bytes .ensures, width (getD (s .args .ns .now) (l .loop .i) 0))
 
 loop-again : tie.Need-loop-again Inv-loop μ-loop
 loop-again c =
     let b = c .before in
-    let l = b .before .before .before .loop in
-    let s = b .before .before .before .before .before .before .before in
+    let i = b .before .before .before in
+    let l = i .loop in
+    let s = entry i in
     let h = b .before .before .loop-test .taken in
     counted-more (l .inv) refl refl h (s .pre .2) (b .field-bytes .ensures)
     (⊎-elim (λ t. t .1 ∙ differs (l .inv) refl refl h (t .0 .taken)) (λ t. t .1 ∙ agrees (l .inv) refl refl h (t .0 .left)) (c .if1 .came))

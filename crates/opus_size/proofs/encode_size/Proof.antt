@@ -35,29 +35,34 @@ returns-2 c =
 
 returns-3 : tie.Need-returns-3
 returns-3 c =
-    let b = c .before .before .before .before .before in
+    let i = c .before .before .before in
+    let b = i .before .before in
     let a = b .before .before .before .before .args in
     let back : toZ w32 (ofZ w32 (c .refusal-number3 .result)) ≡ c .refusal-number3 .result = search needs in
     let law =
     encode-full (a .size) (a .«data» .now) _
     (counted (a .size) (b .before .before .before .before .fits .size) (b .before .before .count-of .ensures .0) (b .n .given .1))
-    (c .before .before .before .if1 .left) (omega (arith, c .before .before .size-bytes .ensures)) in
+    (i .if1 .left) (omega (arith, c .before .before .size-bytes .ensures)) in
     (back ∙ (c .refusal-number3 .ensures ∙ law .0), law .1)
 
 cast-t14 : tie.Need-cast-t14
-cast-t14 c = omega (arith, c .before .before .put-size .ensures .1, width (c .before .before .before .before .before .before .before .before .n .given .0 .0))
+cast-t14 c =
+    let p = c .before .before in
+    let i = p .before .before .before .before in
+    omega (arith, p .put-size .ensures .1, width (i .before .before .n .given .0 .0))
 
 returns-4 : tie.Need-returns-4
 returns-4 c =
     let p = c .before .before .before in
-    let b = p .before .before .before .before .before .before in
+    let i = p .before .before .before .before in
+    let b = i .before .before in
     let a = b .before .before .before .before .args in
     let n = b .n .given .0 .0 in
     let back : toZ w32 (ofZ w32 (c .number-of .result)) ≡ c .number-of .result = search needs in
     let law =
     encode-put (a .size) (a .«data» .now) n
     (counted (a .size) (b .before .before .before .before .fits .size) (b .before .before .count-of .ensures .0) (b .n .given .1))
-    (p .before .before .before .before .if1 .left) (omega (arith, p .before .before .before .size-bytes .ensures)) in
+    (i .if1 .left) (omega (arith, p .before .before .before .size-bytes .ensures)) in
     (back ∙ (c .number-of .ensures ∙ (ap pos (p .put-size .ensures .1 ∙ zero-add _) ∙ law .0)), p .put-size .ensures .0 ∙ law .1)
 
 pub encode-size-spec : {M : Type 1} → statement M

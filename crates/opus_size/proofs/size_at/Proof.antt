@@ -19,9 +19,10 @@ returns-3 c = at-cut _ _ (c .before .before .before .if1 .left) (c .before .if2 
 
 returns-4 : tie.Need-returns-4
 returns-4 c =
-    let at = c .before .before .before .before .before .before .before .args .at in
+    let i = c .before .before .before in
+    let at = i .before .before .before .before .args .at in
     ap (λ (n : ℕ). Whole n (at + 2)) (c .two-bytes .ensures)
-    ∙ at-long _ _ (c .before .before .if3 .left) (c .before .before .before .if2 .left)
+    ∙ at-long _ _ (c .before .before .if3 .left) (i .if2 .left)
 
 pub size-at-spec : {M : Type 1} → statement M
 size-at-spec =

@@ -11,19 +11,22 @@ use Rattle.packet_pad.proofs.compact_frames.Tie as tie
 
 rewrite-requires : tie.Need-rewrite-requires
 rewrite-requires c κs =
-    let f = c .before .compact-form in
-    let m = c .before .before .sums-of in
-    let s = c .before .before .before .before .before in
+    let k = c .before in
+    let f = k .compact-form in
+    let m = k .before in
+    let s = m .before .before .before in
     let a = s .args in
     let is =
     compact-laid (a .self-delimited) (upperSix (a .toc)) (a .ns .now) (a .«data» .now) (a .first) (s .pre .1 .0) (f .result) (f .ensures) (s .pre .1 .1) in
-    (m .ensures, (s .pre .0, (rw (f .ensures) (omega (arith, compact-missing (length (a .ns .now)))), (s .pre .1 .0, is .1))))
+    (m .sums-of .ensures, (s .pre .0, (rw (f .ensures) (omega (arith, compact-missing (length (a .ns .now)))), (s .pre .1 .0, is .1))))
 
 returns : tie.Need-returns
 returns c =
-    let r = c .before .before .rewrite in
-    let f = c .before .before .before .before .compact-form in
-    let s = c .before .before .before .before .before .before .before .before in
+    let e = c .before .before in
+    let r = e .rewrite in
+    let k = e .before .before in
+    let f = k .compact-form in
+    let s = k .before .before .before .before in
     let a = s .args in
     let is =
     compact-laid (a .self-delimited) (upperSix (a .toc)) (a .ns .now) (a .«data» .now) (a .first) (s .pre .1 .0) (f .result) (f .ensures) (s .pre .1 .1) in

@@ -32,16 +32,24 @@ move-block-requires c κs = (fit (c .before) .0, omega (arith, fit (c .before)))
 
 put-header-requires : tie.Need-put-header-requires
 put-header-requires c κs =
-    let h = c .before .before .before .before .before in
+    let v = c .before .before .before in
+    let h = v .before .before in
     let s = h .before .before .before in
     let a = s .args in
     let head =
     header-length (a .self-delimited) (upperSix (a .toc)) (a .ns .now) (a .m) (a .form) (a .«data» .now) (a .first) (h .header-bytes .result) (s .pre .0)
     (s .pre .1 .1 .1 .0) (h .header-bytes .ensures) in
-    (s .pre .0, (s .pre .1 .0, omega (arith, head, fit h, c .before .before .before .move-block .kept .0)))
+    (s .pre .0, (s .pre .1 .0, omega (arith, head, fit h, v .move-block .kept .0)))
+
+-- where the header's bytes were counted
+abbrev sized : tie.After-pad-bytes → tie.After-header-bytes
+sized c =
+    let p = c .before .before .before in
+    let v = p .before .before .before .before in
+    v .before .before
 
 add-fill : tie.Need-add-fill
-add-fill c = omega (arith, fit (c .before .before .before .before .before .before .before .before .before .before))
+add-fill c = omega (arith, fit (sized (c .before)))
 
 fill-requires : tie.Need-fill-requires
 fill-requires c κs =
@@ -50,12 +58,12 @@ fill-requires c κs =
     omega (arith, fit (v .before .before), c .before .pad-bytes .ensures, p .put-header .kept .0, v .move-block .kept .0)
 
 add-result : tie.Need-add-result
-add-result c = omega (arith, fit (c .before .before .before .before .before .before .before .before .before .before .before .before .before))
+add-result c = omega (arith, fit (sized (c .before .before .before .before)))
 
 add-result-2 : tie.Need-add-result-2
 add-result-2 c =
     let z = c .before .before .before .before in
-    omega (arith, fit (z .before .before .before .before .before .before .before .before .before), z .pad-bytes .ensures)
+    omega (arith, fit (sized z), z .pad-bytes .ensures)
 
 returns : tie.Need-returns
 returns c =

@@ -23,12 +23,19 @@ slice-aggregate-read-into c = sym (length-take-le _ _ (c .before .before .pre .0
 abbrev read : tie.After-enum-told → Packet
 read c = let r = c .before .before .read-into in packetWith (r .result) (r .last .1 .1 .0)
 
-lying : (c : tie.After-enum-told) → let a = c .before .before .before .before .before .before .args in Lies false (a .«data» .now) (a .len) (read c)
+-- where the buffer's bytes are known, and the entry
+abbrev known : tie.After-read-into → tie.After-slice-known
+known c = c .before .before .before
+
+abbrev entry : tie.After-read-into → tie.Start
+entry c = known c .before
+
+lying : (c : tie.After-enum-told) → let a = entry (c .before .before) .args in Lies false (a .«data» .now) (a .len) (read c)
 lying c =
     let p = c .before .before in
-    let k = p .before .before .before in
-    let a = k .before .args in
-    lies false (a .«data» .now) (a .len) (read c) (record { byte = λ i. k .slice-known .given i .fits }) (k .before .pre .0)
+    let k = known p in
+    let a = entry p .args in
+    lies false (a .«data» .now) (a .len) (read c) (record { byte = λ i. k .slice-known .given i .fits }) (entry p .pre .0)
     (lent-accepted false _ _ _ (p .read-into .ensures) (c .enum-told .given .1)) (c .enum-told .given .1)
 
 array-share-prefix-lengths : tie.Need-array-share-prefix-lengths
@@ -40,30 +47,32 @@ slice-aggregate-compact-frames c = sym (length-take-le _ _ (lying (c .before .be
 compact-frames-requires : tie.Need-compact-frames-requires
 compact-frames-requires c κs =
     let t = c .before .before in
-    let s = t .before .before .before .before .before .before in
+    let s = entry (t .before .before) in
     let l = lying t in
     (l .some, (omega (arith, l .within, s .pre), l .short))
 
 -- the compact packet is no longer than the packet was
 cast : tie.Need-cast-t17
 cast c =
-    let t = c .before .before .before .before .before in
-    let s = t .before .before .before .before .before .before in
-    omega (arith, c .before .before .compact-frames .ensures .1, lying t .least, s .pre)
+    let b = c .before .before in
+    let t = b .before .before .before in
+    let s = entry (t .before .before) in
+    omega (arith, b .compact-frames .ensures .1, lying t .least, s .pre)
 
 returns : tie.Need-returns
 returns c =
     let b = c .before .before in
     let t = b .before .before .before in
-    let s = t .before .before .before .before .before .before in
+    let s = entry (t .before .before) in
     let a = s .args in
     meets (ap (leaves (a .«data» .now)) (unpad-read (a .«data» .now) (a .len) (read t) (lying t))) (ap pos (b .compact-frames .ensures .1))
     (b .compact-frames .ensures .0)
 
 returns-2 : tie.Need-returns-2
 returns-2 c =
-    let r = c .before .before .before .read-into in
-    let s = c .before .before .before .before .before .before .before in
+    let p = c .before .before .before in
+    let r = p .read-into in
+    let s = entry p in
     let a = s .args in
     meets
     (ap (leaves (a .«data» .now))

@@ -12,27 +12,30 @@ use Rattle.repacketizer.proofs.Adds.{add-unsound, add-tight, add-sound,
 use Rattle.repacketizer.proofs.add.Statement.{statement}
 use Rattle.repacketizer.proofs.add.Tie as tie
 
+abbrev entry : tie.After-check → tie.Start
+entry c = c .before .before .before .before .before
+
 -- what was found of the collector
-found : (c : tie.After-check) → let a = c .before .before .before .before .before .args in c .check .result .sound ≡ sound (collectorOf (a .h) (a .len .now))
+found : (c : tie.After-check) → let a = entry c .args in c .check .result .sound ≡ sound (collectorOf (a .h) (a .len .now))
 found c =
-    let a = c .before .before .before .before .before .args in
+    let a = entry c .args in
     checked-sound (collectorOf (a .h) (a .len .now)) (c .check .result) (c .check .ensures)
 
 returns : tie.Need-returns
 returns c =
     let k = c .before .before .before in
-    let a = k .before .before .before .before .before .args in
+    let a = entry k .args in
     let unsound = sym (found k) ∙ not-true _ (c .before .if1 .taken) in
     refused-as (add-unsound (a .self-delimited) (collectorOf (a .h) (a .len .now)) (a .«data» .now) (a .store .now) unsound) (c .refused-add .ensures)
 
 -- the collector is sound
-is : (c : tie.Else1) → let a = c .before .before .before .before .before .before .before .args in sound (collectorOf (a .h) (a .len .now)) ≡ true
+is : (c : tie.Else1) → let a = entry (c .before .before) .args in sound (collectorOf (a .h) (a .len .now)) ≡ true
 is c = sym (found (c .before .before)) ∙ not-false _ (c .if1 .left)
 
 returns-2 : tie.Need-returns-2
 returns-2 c =
     let i = c .before .before in
-    let a = i .before .before .before .before .before .before .before .args in
+    let a = entry (i .before .before) .args in
     let rp = collectorOf (a .h) (a .len .now) in
     refused-as (add-tight (a .self-delimited) rp (a .«data» .now) (a .store .now) (is i) (c .before .if2 .taken)) (c .refused-add2 .ensures)
 
@@ -41,7 +44,7 @@ add-packet-requires c κs =
     let t = c .before .before in
     let i = t .before in
     let k = i .before .before in
-    let s = k .before .before .before .before .before in
+    let s = entry k in
     let l : length (s .args .len .now) ≡ 48 = search needs in
     (l, is i, checked-total (collectorOf (s .args .h) (s .args .len .now)) (k .check .result) (k .check .ensures) (is i), t .if2 .left)
 
@@ -50,7 +53,7 @@ returns-3 c =
     let p = c .before .before in
     let t = p .before .before .before in
     let i = t .before in
-    let a = i .before .before .before .before .before .before .before .args in
+    let a = entry (i .before .before) .args in
     rw (add-sound (a .self-delimited) (collectorOf (a .h) (a .len .now)) (a .«data» .now) (a .store .now) (is i) (t .if2 .left)) (p .add-packet .ensures)
 
 pub add-spec : {M : Type 1} → statement M

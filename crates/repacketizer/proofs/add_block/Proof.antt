@@ -26,6 +26,9 @@ byte c = search needs
 holds : (c : tie.Start) → Holding (collectorOf (c .args .h) (c .args .len .now))
 holds c = holding (collectorOf (c .args .h) (c .args .len .now)) (byte c) (c .pre .0 .0) (c .pre .0 .1)
 
+abbrev entry : tie.After-goes-with → tie.Start
+entry c = c .before .before .before .before .before
+
 goes-with-requires : tie.Need-goes-with-requires
 goes-with-requires c κs =
     let s = c .before .before .before .before in
@@ -34,7 +37,7 @@ goes-with-requires c κs =
 returns : tie.Need-returns
 returns c =
     let g = c .before .before in
-    let a = g .before .before .before .before .before .args in
+    let a = entry g .args in
     refused-as
     (block-refused (collectorOf (a .h) (a .len .now)) (a .toc) (a .ns .now) (a .«data» .now) (a .first) (a .store .now)
     (sym (g .goes-with .ensures) ∙ not-true _ (c .before .if1 .taken)))
@@ -42,38 +45,46 @@ returns c =
 
 -- the frames go with those held
 goes : (c : tie.Else1)
-    → let a = c .before .before .before .before .before .before .args in goesWith (collectorOf (a .h) []) (a .toc) (length (a .ns .now)) ≡ true
+    → let a = entry (c .before) .args in goesWith (collectorOf (a .h) []) (a .toc) (length (a .ns .now)) ≡ true
 goes c = sym (c .before .goes-with .ensures) ∙ not-false _ (c .if1 .left)
 
-few : (c : tie.Else1) → let a = c .before .before .before .before .before .before .args in a .h .«nb_frames» + length (a .ns .now) ≤ 48
+few : (c : tie.Else1) → let a = entry (c .before) .args in a .h .«nb_frames» + length (a .ns .now) ≤ 48
 few c =
-    let s = c .before .before .before .before .before .before in
+    let s = entry (c .before) in
     with-few (collectorOf (s .args .h) (s .args .len .now)) (s .args .toc) (s .args .ns .now) (s .pre .0 .1) (goes c) (byte s) (s .pre .1 .1)
 
 -- the bytes of the new frames, as the code counts them
-sum : (c : tie.After-wide) → let a = c .before .before .before .before .before .before .before .before .before .args in c .wide .result ≡ total (a .ns .now)
+sum : (c : tie.After-wide)
+    → let i = c .before .before .before in
+    let a = entry (i .before) .args in
+    c .wide .result ≡ total (a .ns .now)
 sum c =
-    let m = c .before .before .measure in
-    let s = c .before .before .before .before .before .before .before .before .before in
-    c .wide .ensures .0 ∙ (ap (λ (m : Measured). m .total) (m .ensures) ∙ sum-small (s .args .ns .now) (s .pre .1 .1) (s .pre .1 .2))
+    let m = c .before .before in
+    let i = m .before in
+    let s = entry (i .before) in
+    c .wide .ensures .0 ∙ (ap (λ (m : Measured). m .total) (m .measure .ensures) ∙ sum-small (s .args .ns .now) (s .pre .1 .1) (s .pre .1 .2))
 
 copy-into-requires : tie.Need-copy-into-requires
 copy-into-requires c κs =
     let i = c .before .before .before in
-    let s = i .before .before .before .before .before .before in
+    let s = entry (i .before) in
     let room =
     with-room (collectorOf (s .args .h) (s .args .len .now)) (s .args .toc) (s .args .ns .now) (s .pre .0 .1) (goes i) (byte s) (s .pre .0 .0)
     (s .pre .1 .1) (s .pre .1 .2) in
     (omega (arith, s .pre .0 .2, sum c, room, s .pre .0 .3), omega (arith, sum c, s .pre .1 .3))
 
+-- where the frames were found to go with those held
+abbrev joined : tie.After-wide2 → tie.Else1
+joined c = let k = c .before .before .before .before in k .before .before .before .before
+
 put-lengths-requires : tie.Need-put-lengths-requires
 put-lengths-requires c κs =
-    let i = c .before .before .before .before .before .before .before .before in
-    let s = i .before .before .before .before .before .before in
+    let i = joined c in
+    let s = entry (i .before) in
     (s .pre .1 .0, omega (arith, c .wide2 .ensures .0, few i, s .pre .0 .0))
 
 more-frames-requires : tie.Need-more-frames-requires
-more-frames-requires c κs = few (c .before .before .before .before .before .before .before .before .before .before .before)
+more-frames-requires c κs = few (joined (c .before .before .before))
 
 returns-2 : tie.Need-returns-2
 returns-2 c =
@@ -82,7 +93,7 @@ returns-2 c =
     let k = w .before .before .before .before in
     let t = k .before in
     let i = t .before .before .before in
-    let s = i .before .before .before .before .before .before in
+    let s = entry (i .before) in
     let a = s .args in
     block-as (a .h) (a .len .now) (a .toc) (a .ns .now) (a .«data» .now) (a .first) (a .store .now) (goes i) (a .at) (t .wide .result)
     (c .more-frames .result) (p .put-lengths .last .0) (k .copy-into .last .0)

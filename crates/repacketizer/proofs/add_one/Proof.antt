@@ -22,41 +22,48 @@ byte c = search needs
 holds : (c : tie.Start) → Holding (collectorOf (c .args .h) (c .args .len .now))
 holds c = holding (collectorOf (c .args .h) (c .args .len .now)) (byte c) (c .pre .0 .0) (c .pre .0 .1)
 
+abbrev entry : tie.After-goes-with → tie.Start
+entry c = c .before .before .before .before
+
 goes-with-requires : tie.Need-goes-with-requires
 goes-with-requires c κs = (holds (c .before .before .before) .few, omega arith)
 
 returns : tie.Need-returns
 returns c =
     let g = c .before .before in
-    let a = g .before .before .before .before .args in
+    let a = entry g .args in
     let rp = collectorOf (a .h) (a .len .now) in
     let stays = sym (g .goes-with .ensures) ∙ not-true _ (c .before .if1 .taken) in
     refused-as (block-refused rp (a .toc) (a .n ∷ []) (a .«data» .now) (a .first) (a .store .now) stays) (c .refused-add .ensures)
 
 -- the frame goes with those held
-goes : (c : tie.Else1) → let a = c .before .before .before .before .before .args in goesWith (collectorOf (a .h) []) (a .toc) 1 ≡ true
+goes : (c : tie.Else1) → let a = entry (c .before) .args in goesWith (collectorOf (a .h) []) (a .toc) 1 ≡ true
 goes c = sym (c .before .goes-with .ensures) ∙ not-false _ (c .if1 .left)
 
-few : (c : tie.Else1) → c .before .before .before .before .before .args .h .«nb_frames» + 1 ≤ 48
+few : (c : tie.Else1) → entry (c .before) .args .h .«nb_frames» + 1 ≤ 48
 few c =
-    let s = c .before .before .before .before .before in
+    let s = entry (c .before) in
     with-few (collectorOf (s .args .h) (s .args .len .now)) (s .args .toc) (s .args .n ∷ []) (s .pre .0 .1) (goes c) (byte s) (omega arith)
 
 copy-into-requires : tie.Need-copy-into-requires
 copy-into-requires c κs =
     let i = c .before .before in
-    let s = i .before .before .before .before .before in
+    let s = entry (i .before) in
     let rp = collectorOf (s .args .h) (s .args .len .now) in
     let room = with-room rp (s .args .toc) (s .args .n ∷ []) (s .pre .0 .1) (goes i) (byte s) (s .pre .0 .0) (omega arith) (s .pre .1 .0) in
     (omega (arith, s .pre .0 .2, c .wide .ensures .0, room, s .pre .0 .3), omega (arith, c .wide .ensures .0, s .pre .1 .1))
 
+-- where the frame was found to go with those held
+abbrev joined : tie.After-wide2 → tie.Else1
+joined c = let k = c .before .before .before in k .before .before .before
+
 slice-write-len : tie.Need-slice-write-len
 slice-write-len c =
-    let i = c .before .before .before .before .before .before in
-    omega (arith, c .wide2 .ensures .0, few i, i .before .before .before .before .before .pre .0 .0)
+    let i = joined c in
+    omega (arith, c .wide2 .ensures .0, few i, entry (i .before) .pre .0 .0)
 
 more-frames-requires : tie.Need-more-frames-requires
-more-frames-requires c κs = omega (arith, few (c .before .before .before .before .before .before))
+more-frames-requires c κs = omega (arith, few (joined c))
 
 returns-2 : tie.Need-returns-2
 returns-2 c =
@@ -64,7 +71,7 @@ returns-2 c =
     let k = w .before .before .before in
     let t = k .before in
     let i = t .before .before in
-    let s = i .before .before .before .before .before in
+    let s = entry (i .before) in
     let a = s .args in
     block-as (a .h) (a .len .now) (a .toc) (a .n ∷ []) (a .«data» .now) (a .first) (a .store .now) (goes i) (a .at) (t .wide .result) (c .more-frames .result)
     _ (k .copy-into .last .0) (s .pre .0 .2) (omega (arith, t .wide .ensures .0)) (c .more-frames .ensures)

@@ -16,7 +16,8 @@ use Rattle.repacketizer.proofs.add_packet.Tie as tie
 
 returns : tie.Need-returns
 returns c =
-    let a = c .before .before .before .before .before .args in
+    let v = c .before .before .before in
+    let a = v .before .before .args in
     let rp = collectorOf (a .h) (a .len .now) in
     refused-as (add-long (a .self-delimited) rp (a .«data» .now) (a .store .now) (c .before .if1 .taken)) (c .refused-add .ensures)
 
@@ -29,13 +30,19 @@ returns-2 c =
 bytes : (c : tie.After-shared-slice-known) → Bytes (c .before .before .args .«data» .now)
 bytes c = record { byte = λ i. c .shared-slice-known .given i .fits }
 
+-- where its bytes are known, and the entry
+abbrev known : tie.After-short-at → tie.After-shared-slice-known
+known c = c .before .before .before .before
+
+abbrev entry : tie.After-short-at → tie.Start
+entry c = known c .before .before
+
 one : (c : tie.After-s)
-    → let a = c .before .before .before .before .before .before .before .before .args in
+    → let a = entry (c .before .before) .args in
     ShortRead (a .«data» .now) (c .s .given .0 .0 ∷ []) (c .s .given .0 .1 .0)
 one c =
     let k = c .before .before in
-    let v = k .before .before .before .before in
-    one-read (v .before .before .args .«data» .now) (bytes v) (k .short-at .result) (k .short-at .ensures) _ _ (c .s .given .1)
+    one-read (entry k .args .«data» .now) (bytes (known k)) (k .short-at .result) (k .short-at .ensures) _ _ (c .s .given .1)
 
 shared-slice-read-add-one : tie.Need-shared-slice-read-add-one
 shared-slice-read-add-one c =
@@ -46,24 +53,24 @@ add-one-requires : tie.Need-add-one-requires
 add-one-requires c κs =
     let t = c .before .before .before .before in
     let f = one t .known in
-    (t .before .before .before .before .before .before .before .before .pre, (f .small, omega (arith, f .block, f .within)))
+    (entry (t .before .before) .pre, (f .small, omega (arith, f .block, f .within)))
 
 returns-3 : tie.Need-returns-3
 returns-3 c =
     let b = c .before .before .before .before in
     let t = b .before .before .before .before .before in
-    let i = t .before .before .before in
-    let a = i .before .before .before .before .before .args in
+    let k = t .before .before in
+    let i = k .before in
+    let a = entry k .args in
     let rp = collectorOf (a .h) (a .len .now) in
     rw (i .if2 .left, add-read false rp (a .«data» .now) (a .store .now) _ _ _ (one t .taken) (i .before .if1 .left) (one t .means)) (b .add-one .ensures)
 
 two : (c : tie.After-s2)
-    → let a = c .before .before .before .before .before .before .before .before .args in
+    → let a = entry (c .before .before) .args in
     ShortRead (a .«data» .now) (c .s2 .given .0 .0 ∷ c .s2 .given .0 .1 .0 ∷ []) (c .s2 .given .0 .1 .1 .0)
 two c =
     let k = c .before .before in
-    let v = k .before .before .before .before in
-    two-read (v .before .before .args .«data» .now) (bytes v) (k .short-at .result) (k .short-at .ensures) _ _ _ (c .s2 .given .1)
+    two-read (entry k .args .«data» .now) (bytes (known k)) (k .short-at .result) (k .short-at .ensures) _ _ _ (c .s2 .given .1)
 
 shared-slice-read-add-two : tie.Need-shared-slice-read-add-two
 shared-slice-read-add-two c =
@@ -74,14 +81,15 @@ add-two-requires : tie.Need-add-two-requires
 add-two-requires c κs =
     let t = c .before .before .before .before in
     let f = two t .known in
-    (t .before .before .before .before .before .before .before .before .pre, (f .small, omega (arith, f .block, f .within)))
+    (entry (t .before .before) .pre, (f .small, omega (arith, f .block, f .within)))
 
 returns-4 : tie.Need-returns-4
 returns-4 c =
     let b = c .before .before .before .before in
     let t = b .before .before .before .before .before in
-    let i = t .before .before .before in
-    let a = i .before .before .before .before .before .args in
+    let k = t .before .before in
+    let i = k .before in
+    let a = entry k .args in
     let rp = collectorOf (a .h) (a .len .now) in
     rw (i .if2 .left, add-read false rp (a .«data» .now) (a .store .now) _ _ _ (two t .taken) (i .before .if1 .left) (two t .means)) (b .add-two .ensures)
 
@@ -90,10 +98,9 @@ returns-5 c =
     let t = c .before .before .before in
     let k = t .before .before in
     let i = k .before in
-    let v = i .before .before .before in
-    let a = v .before .before .args in
+    let a = entry k .args in
     let rp = collectorOf (a .h) (a .len .now) in
-    let bad = none-read (a .«data» .now) (bytes v) (k .short-at .result) (k .short-at .ensures) _ (t .s3 .given .1) in
+    let bad = none-read (a .«data» .now) (bytes (known k)) (k .short-at .result) (k .short-at .ensures) _ (t .s3 .given .1) in
     let same = ap (λ (x : Refusal). noAdd x rp (a .store .now)) (sym (c .before .rule-refusal .ensures)) in
     rw (i .if2 .left)
     (refused-as (add-refused false rp (a .«data» .now) (a .store .now) _ (i .before .if1 .left) bad ∙ same) (c .refused-add2 .ensures))

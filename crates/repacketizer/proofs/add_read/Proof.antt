@@ -14,14 +14,21 @@ use Rattle.repacketizer.proofs.Adds.{add-read, refused-as}
 use Rattle.repacketizer.proofs.add_read.Statement.{statement}
 use Rattle.repacketizer.proofs.add_read.Tie as tie
 
+-- where the packet's bytes are known, and the entry
+abbrev known : tie.After-read-into → tie.After-shared-slice-known
+known c = c .before .before .before
+
+abbrev entry : tie.After-read-into → tie.Start
+entry c = known c .before .before
+
 -- what was read of an accepted packet
 reading : (c : tie.After-enum-told)
     → let r = c .before .before in
-    let a = r .before .before .before .before .before .args in
+    let a = entry r .args in
     Read (a .self-delimited) (a .«data» .now) (packetWith (r .read-into .result) (r .read-into .last .1 .1 .0))
 reading c =
     let r = c .before .before in
-    let a = r .before .before .before .before .before .args in
+    let a = entry r .args in
     lent-read (a .self-delimited) (a .«data» .now) (r .read-into .result) (r .read-into .last .1 .1 .0) (r .read-into .ensures) (c .enum-told .given .1)
 
 array-share-prefix-lengths : tie.Need-array-share-prefix-lengths
@@ -34,8 +41,8 @@ add-block-requires : tie.Need-add-block-requires
 add-block-requires c κs =
     let t = c .before .before .before in
     let r = t .before .before in
-    let k = r .before .before .before in
-    let s = k .before .before in
+    let k = known r in
+    let s = entry r in
     let q = packetWith (r .read-into .result) (r .read-into .last .1 .1 .0) in
     let bytes : Bytes (s .args .«data» .now) = record { byte = λ i. k .shared-slice-known .given i .fits } in
     let f = facts (s .args .self-delimited) (s .args .«data» .now) (q .toc) (lengthsOf q) (q .first) (q .taken) bytes (reading t .means) in
@@ -46,7 +53,7 @@ returns c =
     let b = c .before .before .before .before in
     let t = b .before .before .before .before in
     let r = t .before .before in
-    let a = r .before .before .before .before .before .args in
+    let a = entry r .args in
     let q = packetWith (r .read-into .result) (r .read-into .last .1 .1 .0) in
     let rp = collectorOf (a .h) (a .len .now) in
     rw (add-read (a .self-delimited) rp (a .«data» .now) (a .store .now) (q .toc) (lengthsOf q) (q .first) (q .taken) (reading t .short) (reading t .means))
@@ -56,7 +63,7 @@ returns-2 : tie.Need-returns-2
 returns-2 c =
     let v = c .before .before in
     let r = v .before .before in
-    let s = r .before .before .before .before .before in
+    let s = entry r in
     let a = s .args in
     let lent = r .read-into .last .1 .1 .0 in
     let rp = collectorOf (a .h) (a .len .now) in

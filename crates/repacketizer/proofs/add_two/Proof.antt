@@ -24,53 +24,61 @@ byte c = search needs
 holds : (c : tie.Start) → Holding (collectorOf (c .args .h) (c .args .len .now))
 holds c = holding (collectorOf (c .args .h) (c .args .len .now)) (byte c) (c .pre .0 .0) (c .pre .0 .1)
 
+abbrev entry : tie.After-goes-with → tie.Start
+entry c = c .before .before .before .before
+
 goes-with-requires : tie.Need-goes-with-requires
 goes-with-requires c κs = (holds (c .before .before .before) .few, omega arith)
 
 returns : tie.Need-returns
 returns c =
     let g = c .before .before in
-    let a = g .before .before .before .before .args in
+    let a = entry g .args in
     let rp = collectorOf (a .h) (a .len .now) in
     let stays = sym (g .goes-with .ensures) ∙ not-true _ (c .before .if1 .taken) in
     refused-as (block-refused rp (a .toc) (a .m ∷ a .n ∷ []) (a .«data» .now) (a .first) (a .store .now) stays) (c .refused-add .ensures)
 
 -- the frames go with those held
-goes : (c : tie.Else1) → let a = c .before .before .before .before .before .args in goesWith (collectorOf (a .h) []) (a .toc) 2 ≡ true
+goes : (c : tie.Else1) → let a = entry (c .before) .args in goesWith (collectorOf (a .h) []) (a .toc) 2 ≡ true
 goes c = sym (c .before .goes-with .ensures) ∙ not-false _ (c .if1 .left)
 
-few : (c : tie.Else1) → c .before .before .before .before .before .args .h .«nb_frames» + 2 ≤ 48
+few : (c : tie.Else1) → entry (c .before) .args .h .«nb_frames» + 2 ≤ 48
 few c =
-    let s = c .before .before .before .before .before in
+    let s = entry (c .before) in
     with-few (collectorOf (s .args .h) (s .args .len .now)) (s .args .toc) (s .args .m ∷ s .args .n ∷ []) (s .pre .0 .1) (goes c) (byte s) (omega arith)
 
 -- the bytes of the frames, as the code counts them
 sum : (c : tie.After-wide2)
-    → let a = c .before .before .before .before .before .before .before .before .args in
+    → let i = c .before .before .before in
+    let a = entry (i .before) .args in
     c .before .wide .result + c .wide2 .result ≡ total (a .m ∷ a .n ∷ [])
 sum c = omega (arith, c .before .wide .ensures .0, c .wide2 .ensures .0)
 
 copy-into-requires : tie.Need-copy-into-requires
 copy-into-requires c κs =
     let i = c .before .before .before in
-    let s = i .before .before .before .before .before in
+    let s = entry (i .before) in
     let rp = collectorOf (s .args .h) (s .args .len .now) in
     let ns = s .args .m ∷ s .args .n ∷ [] in
     let room = with-room rp (s .args .toc) ns (s .pre .0 .1) (goes i) (byte s) (s .pre .0 .0) (omega arith) (s .pre .1 .0) in
     (omega (arith, s .pre .0 .2, sum c, room, s .pre .0 .3), omega (arith, sum c, s .pre .1 .1))
 
+-- where the frames were found to go with those held
+abbrev joined : tie.After-wide3 → tie.Else1
+joined c = let k = c .before .before .before in k .before .before .before .before
+
 slice-write-len : tie.Need-slice-write-len
 slice-write-len c =
-    let i = c .before .before .before .before .before .before .before in
-    omega (arith, c .wide3 .ensures .0, few i, i .before .before .before .before .before .pre .0 .0)
+    let i = joined c in
+    omega (arith, c .wide3 .ensures .0, few i, entry (i .before) .pre .0 .0)
 
 slice-write-len-2 : tie.Need-slice-write-len-2
 slice-write-len-2 c =
-    let i = c .before .before .before .before .before .before .before in
-    simp length-set (omega (arith, c .wide3 .ensures .0, few i, i .before .before .before .before .before .pre .0 .0))
+    let i = joined c in
+    simp length-set (omega (arith, c .wide3 .ensures .0, few i, entry (i .before) .pre .0 .0))
 
 more-frames-requires : tie.Need-more-frames-requires
-more-frames-requires c κs = omega (arith, few (c .before .before .before .before .before .before .before))
+more-frames-requires c κs = omega (arith, few (joined c))
 
 returns-2 : tie.Need-returns-2
 returns-2 c =
@@ -78,7 +86,7 @@ returns-2 c =
     let k = w .before .before .before in
     let t = k .before in
     let i = t .before .before .before in
-    let s = i .before .before .before .before .before in
+    let s = entry (i .before) in
     let a = s .args in
     block-as (a .h) (a .len .now) (a .toc) (a .m ∷ a .n ∷ []) (a .«data» .now) (a .first) (a .store .now) (goes i) (a .at) _ (c .more-frames .result)
     _ (k .copy-into .last .0) (s .pre .0 .2) (sum t) (c .more-frames .ensures)

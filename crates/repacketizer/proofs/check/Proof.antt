@@ -35,19 +35,26 @@ returns-3 c =
 byte : (c : tie.Start) → c .args .h .toc < 256
 byte c = search needs
 
-few : (c : tie.Else3) → c .before .before .before .before .before .before .before .before .before .args .h .«nb_frames» ≤ 48
+abbrev entry : tie.Else3 → tie.Start
+entry c =
+    let g = c .before .before in
+    let b = g .before .before .before in
+    let i = b .before .before in
+    i .before .before
+
+few : (c : tie.Else3) → entry c .args .h .«nb_frames» ≤ 48
 few c =
     let g = c .before .before in
     let b = g .before .before .before in
     let i = b .before .before in
-    let s = i .before .before in
+    let s = entry c in
     check-few (collectorOf (s .args .h) (s .args .len .now)) (i .if1 .left) (b .samples-8k .result .0) (b .samples-8k .ensures) (g .if2 .left) (byte s)
     (s .pre) (sym (c .before .fits2 .ensures) ∙ not-false _ (c .if3 .left))
 
 slice-aggregate-measure : tie.Need-slice-aggregate-measure
 slice-aggregate-measure c =
     let w = c .before in
-    let s = w .before .before .before .before .before .before .before .before .before .before in
+    let s = entry (w .before) in
     sym (length-take-le (w .wide .result) (s .args .len .now) (omega (arith, w .wide .ensures .0, few (w .before), s .pre)))
 
 returns-4 : tie.Need-returns-4
@@ -58,7 +65,7 @@ returns-4 c =
     let g = f .before .before in
     let b = g .before .before .before in
     let i = b .before .before in
-    let s = i .before .before in
+    let s = entry f in
     check-long (collectorOf (s .args .h) (s .args .len .now)) (i .if1 .left) (b .samples-8k .result .0) (b .samples-8k .ensures) (g .if2 .left) (byte s)
     (s .pre) (sym (f .before .fits2 .ensures) ∙ not-false _ (f .if3 .left))
     (w .wide .result) (m .measure .result) (w .wide .ensures .0) (m .measure .ensures) (omega (arith, c .before .wide2 .ensures .0))
@@ -72,7 +79,7 @@ returns-5 c =
     let g = f .before .before in
     let b = g .before .before .before in
     let i = b .before .before in
-    let s = i .before .before in
+    let s = entry f in
     check-total (collectorOf (s .args .h) (s .args .len .now)) (i .if1 .left) (b .samples-8k .result .0) (b .samples-8k .ensures) (g .if2 .left) (byte s)
     (s .pre) (sym (f .before .fits2 .ensures) ∙ not-false _ (f .if3 .left))
     (w .wide .result) (m .measure .result) (w .wide .ensures .0) (m .measure .ensures) (omega (arith, l .before .wide2 .ensures .0)) (c .wide3 .ensures .0)

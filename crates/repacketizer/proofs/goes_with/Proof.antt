@@ -26,8 +26,9 @@ add-fits c =
 
 returns-3 : tie.Need-returns-3
 returns-3 c =
-    let a = c .before .before .before .before .before .args in
-    c .fits2 .ensures ∙ goes-time (collectorOf (a .h) []) (a .toc) (a .n) (c .before .before .before .before .if1 .left) (c .before .before .if2 .left)
+    let i = c .before .before .before .before in
+    let a = i .before .args in
+    c .fits2 .ensures ∙ goes-time (collectorOf (a .h) []) (a .toc) (a .n) (i .if1 .left) (c .before .before .if2 .left)
 
 pub goes-with-spec : {M : Type 1} → statement M
 goes-with-spec = tie.close (tie.spec returns returns-2 add-fits (λ c κs. search needs) returns-3)

@@ -19,10 +19,12 @@ loop-holds c = counted-none (c .before .args .ns .now)
 
 loop-again : tie.Need-loop-again Inv-loop μ-loop
 loop-again c =
-    let l = c .before .before .before .before .before .loop in
-    let a = c .before .before .before .before .before .before .before .args in
-    counted-more (a .ns .now) (l .most) (l .sum) (l .i) (c .before .before .larger .result) (c .wrapping-add-u16 .result) (l .inv) (omega arith)
-    (c .before .before .larger .ensures) (c .wrapping-add-u16 .ensures)
+    let g = c .before .before in
+    let t = g .before .before .before in
+    let l = t .loop in
+    let a = t .before .before .args in
+    counted-more (a .ns .now) (l .most) (l .sum) (l .i) (g .larger .result) (c .wrapping-add-u16 .result) (l .inv) (omega arith)
+    (g .larger .ensures) (c .wrapping-add-u16 .ensures)
 
 returns : tie.Need-returns Inv-loop μ-loop
 returns c =

@@ -12,9 +12,10 @@ use Rattle.repacketizer_out.proofs.opus_repacketizer_out_range.Tie as t
 
 returns : tie.Need-returns
 returns c =
-    let s = c .before .before .before .before .before .before in
+    let e = c .before .before in
+    let r = e .opus-repacketizer-out-range-impl in
+    let s = e .before .before .before .before in
     let a = s .args in
-    let r = c .before .before .opus-repacketizer-out-range-impl in
     let back : toZ w32 (ofZ w32 (r .result)) ≡ r .result = search needs in
     let o =
     meets (out-passed false false (a .rp) (a .store .now) (a .begin) (a .end) (a .«data» .now) (s .fits .begin) (s .fits .end)) (r .ensures .0)

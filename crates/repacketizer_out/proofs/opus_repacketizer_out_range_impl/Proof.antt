@@ -12,8 +12,9 @@ use Rattle.repacketizer_out.proofs.opus_repacketizer_out_range_impl.Tie
 
 returns : tie.Need-returns
 returns c =
-    let r = c .before .before .out-lent in
-    let h = c .before .before .before .before .before .before in
+    let l = c .before .before in
+    let r = l .out-lent in
+    let h = l .before .before .before .before in
     let s = h .before .before .before in
     let a = s .args in
     let back : toZ w32 (ofZ w32 (r .result)) ≡ r .result = search needs in

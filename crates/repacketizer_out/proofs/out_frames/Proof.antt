@@ -25,41 +25,47 @@ byte c = search needs
 holds : (c : tie.Start) → Holding (collectorOf (c .args .h) (c .args .len .now))
 holds c = holding (collectorOf (c .args .h) (c .args .len .now)) (byte c) (c .pre .0 .0) (c .pre .0 .1)
 
+abbrev entry : tie.After-wide → tie.Start
+entry c = c .before .before .before .before
+
 returns : tie.Need-returns
 returns c =
-    let a = c .before .before .before .before .before .args in
+    let a = entry (c .before) .args in
     refused-as BadArg
     (frames-none (a .self-delimited) (a .pad) (upperSix (a .h .toc)) (held (collectorOf (a .h) (a .len .now)) (a .store .now)) (a .«data» .now)
     (a .begin) (a .end) (c .if1 .taken))
 
 returns-2 : tie.Need-returns-2
 returns-2 c =
-    let s = c .before .before .before .before .before .before in
+    let w = c .before .before in
+    let s = entry w in
     let a = s .args in
     refused-as BadArg
     (held-past (a .self-delimited) (a .pad) (collectorOf (a .h) (a .len .now)) (a .store .now) (a .«data» .now) (holds s) (a .begin) (a .end)
-    (c .before .if1 .left) (omega (arith, c .before .before .wide .ensures .0)))
+    (c .before .if1 .left) (omega (arith, w .wide .ensures .0)))
 
 -- the range is within the frames held
-within : (c : tie.Else2) → let a = c .before .before .before .before .before .before .args in a .end ≤ a .h .«nb_frames»
+within : (c : tie.Else2) → let a = entry (c .before .before) .args in a .end ≤ a .h .«nb_frames»
 within c = omega (arith, c .before .before .wide .ensures .0)
 
-part : (c : tie.Else2) → let a = c .before .before .before .before .before .before .args in Part (collectorOf (a .h) (a .len .now)) (a .begin) (a .end)
+part : (c : tie.Else2) → let a = entry (c .before .before) .args in Part (collectorOf (a .h) (a .len .now)) (a .begin) (a .end)
 part c =
-    let s = c .before .before .before .before .before .before in
+    let s = entry (c .before .before) in
     part-of (collectorOf (s .args .h) (s .args .len .now)) (holds s) (s .args .begin) (s .args .end) (c .before .if1 .left) (within c)
 
 slice-aggregate-measure : tie.Need-slice-aggregate-measure
 slice-aggregate-measure c =
-    let a = c .before .before .before .before .before .before .before .args in
-    sym (length-take-le (a .begin) (a .len .now) (omega (arith, part (c .before) .inside)))
+    let i = c .before in
+    let a = entry (i .before .before) .args in
+    sym (length-take-le (a .begin) (a .len .now) (omega (arith, part i .inside)))
 
 part-put-frames-end : tie.Need-part-put-frames-end
 part-put-frames-end c = part (c .before .before) .inside
 
 -- where it begins
 from : (c : tie.After-wide2)
-    → let a = c .before .before .before .before .before .before .before .before .before .before .args in
+    → let i = c .before .before .before .before in
+    let a = entry (i .before .before) .args in
     c .wide2 .result ≡ total (take (a .begin) (a .len .now))
 from c =
     let m = c .before .before in
@@ -69,7 +75,7 @@ put-frames-requires : tie.Need-put-frames-requires
 put-frames-requires c κs =
     let w = c .before in
     let i = w .before .before .before .before in
-    let s = i .before .before .before .before .before .before in
+    let s = entry (i .before .before) in
     let p = part i in
     ((omega (arith, p .count), omega (arith, p .count, p .few), p .small), (omega (arith, from w, p .block, s .pre .1 .0), s .pre .1 .1))
 
@@ -78,7 +84,7 @@ returns-3 c =
     let f = c .before .before in
     let w = f .before .before in
     let i = w .before .before .before .before in
-    let s = i .before .before .before .before .before .before in
+    let s = entry (i .before .before) in
     let a = s .args in
     meets
     (held-within (a .self-delimited) (a .pad) (collectorOf (a .h) (a .len .now)) (a .store .now) (a .«data» .now) (holds s) (a .begin) (a .end)

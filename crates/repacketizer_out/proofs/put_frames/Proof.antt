@@ -12,38 +12,44 @@ use Rattle.repacketizer_out.proofs.Put.{put-refused, put-room, put-plai
 use Rattle.repacketizer_out.proofs.put_frames.Statement.{statement}
 use Rattle.repacketizer_out.proofs.put_frames.Tie as tie
 
+abbrev entry : tie.After-sums-of → tie.Start
+entry c = c .before .before .before .before
+
 compact-bytes-requires : tie.Need-compact-bytes-requires
 compact-bytes-requires c κs =
-    let s = c .before .before .before .before in
+    let s = entry c in
     sums-few (s .args .ns .now) (c .sums-of .result) (c .sums-of .ensures) (s .pre .0 .1) (s .pre .0 .2)
 
 returns : tie.Need-returns
 returns c =
     let n = c .before in
-    let s = n .before .before .before .before .before in
+    let s = entry (n .before) in
     let a = s .args in
     put-refused (a .self-delimited) (a .pad) (upperSix (a .toc)) (a .ns .now) (a .store .now) (a .from) (a .«data» .now) (s .pre .1 .0)
     (n .before .sums-of .ensures) (n .compact-bytes .ensures) (c .if1 .taken)
 
 -- the header and the frames fit, so they end within the destination
 room : (c : tie.After-form-for)
-    → let a = c .before .before .before .before .before .before .before .args in
+    → let n = c .before .before in
+    let a = entry (n .before) .args in
     length (headerOf (a .self-delimited) (upperSix (a .toc)) (a .ns .now) (c .form-for .result)) + total (a .ns .now) ≤ length (a .«data» .now)
 room c =
     let n = c .before .before in
-    let s = n .before .before .before .before .before in
+    let s = entry (n .before) in
     let a = s .args in
     put-room (a .self-delimited) (a .pad) (upperSix (a .toc)) (a .ns .now) (a .store .now) (a .from) (a .«data» .now) (s .pre .1 .0)
     (n .before .sums-of .ensures) (n .compact-bytes .ensures) (c .before .if1 .left) (c .form-for .ensures)
 
 within : (c : tie.After-put-packet)
-    → c .put-packet .result ≤ length (c .before .before .before .before .before .before .before .before .before .args .«data» .now)
+    → let f = c .before .before in
+    let n = f .before .before in
+    c .put-packet .result ≤ length (entry (n .before) .args .«data» .now)
 within c = omega (arith, c .put-packet .ensures .1, room (c .before .before))
 
 put-packet-requires : tie.Need-put-packet-requires
 put-packet-requires c κs =
     let m = c .before .before .before .before in
-    let s = m .before .before .before .before in
+    let s = entry m in
     (m .sums-of .ensures, (s .pre .0, (s .pre .1 .0, room (c .before))))
 
 sub-fill : tie.Need-sub-fill
@@ -54,26 +60,30 @@ fill-requires c κs = let p = c .before .before .before .before in omega (arith,
 
 returns-2 : tie.Need-returns-2
 returns-2 c =
-    let p = c .before .before .before .before .before .before .before in
+    let z = c .before .before in
+    let t = z .before .before in
+    let p = t .before .before .before in
     let f = p .before .before in
     let n = f .before .before in
-    let s = n .before .before .before .before .before in
+    let s = entry (n .before) in
     let a = s .args in
     put-padded (a .self-delimited) (a .pad) (upperSix (a .toc)) (a .ns .now) (a .store .now) (a .from) (a .«data» .now) (s .pre .1 .0)
     (n .before .sums-of .ensures) (n .compact-bytes .ensures) (f .before .if1 .left) (f .form-for .ensures) (p .put-packet .ensures .0)
-    (p .put-packet .ensures .1) (c .before .before .before .before .if2 .taken) (c .before .before .fill .ensures)
+    (p .put-packet .ensures .1) (t .if2 .taken) (z .fill .ensures)
 
 cast-t23 : tie.Need-cast-t23
 cast-t23 c =
     let p = c .before .before .before in
-    omega (arith, within p, p .before .before .before .before .before .before .before .before .before .pre .1 .1)
+    let f = p .before .before in
+    let n = f .before .before in
+    omega (arith, within p, entry (n .before) .pre .1 .1)
 
 returns-3 : tie.Need-returns-3
 returns-3 c =
     let p = c .before .before .before in
     let f = p .before .before in
     let n = f .before .before in
-    let s = n .before .before .before .before .before in
+    let s = entry (n .before) in
     let a = s .args in
     put-plain (a .self-delimited) (a .pad) (upperSix (a .toc)) (a .ns .now) (a .store .now) (a .from) (a .«data» .now) (s .pre .1 .0)
     (n .before .sums-of .ensures) (n .compact-bytes .ensures) (f .before .if1 .left) (f .form-for .ensures) (p .put-packet .ensures .0)

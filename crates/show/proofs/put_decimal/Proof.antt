@@ -9,15 +9,18 @@ use Rattle.show.proofs.put_decimal.Tie as tie
 
 put-text-requires : tie.Need-put-text-requires
 put-text-requires c κs =
-    let d = c .before .before .decimal in
-    let s = c .before .before .before .before .before in
+    let m = c .before .before in
+    let d = m .decimal in
+    let s = m .before .before .before in
     decimal-room (d .last .1 .0) (d .result) (s .args .n) (d .ensures .1 .0) (d .ensures .1 .1) (s .args .out .now) (s .args .at) (s .pre)
 
 returns : tie.Need-returns
 returns c =
-    let p = c .before .before .put-text in
-    let d = c .before .before .before .before .before .decimal in
-    let s = c .before .before .before .before .before .before .before .before in
+    let t = c .before .before in
+    let p = t .put-text in
+    let m = t .before .before .before in
+    let d = m .decimal in
+    let s = m .before .before .before in
     laid-ends
     (decimal-laid (d .last .1 .0) (d .result) (s .args .n) (d .ensures .1 .0) (d .ensures .1 .1) (record { bytes = p .ensures .0; place = p .ensures .1 }))
     refl

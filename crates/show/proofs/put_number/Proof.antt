@@ -22,7 +22,9 @@ put-text-requires c κs =
 
 -- the minus sign
 minus : (c : tie.After-put-text)
-    → let a = c .before .before .before .before .before .args in Laid (a .out .now) (a .at) (45 ∷ []) (c .put-text .last .0) (c .put-text .result)
+    → let i = c .before .before .before in
+    let a = i .before .before .args in
+    Laid (a .out .now) (a .at) (45 ∷ []) (c .put-text .last .0) (c .put-text .result)
 minus c = record { bytes = c .put-text .ensures .0; place = c .put-text .ensures .1 }
 
 put-decimal-requires : tie.Need-put-decimal-requires

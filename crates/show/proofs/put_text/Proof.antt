@@ -8,8 +8,9 @@ use Rattle.show.proofs.put_text.Tie as tie
 
 returns : tie.Need-returns
 returns c =
-    let a = c .before .before .before .before .before .before .args in
-    (copied-whole (a .out .now) (a .at) (a .s .now) (c .before .before .copy-into .ensures), refl)
+    let k = c .before .before in
+    let a = k .before .before .before .before .args in
+    (copied-whole (a .out .now) (a .at) (a .s .now) (k .copy-into .ensures), refl)
 
 pub put-text-spec : {M : Type 1} → statement M
 put-text-spec =

@@ -11,8 +11,9 @@ use Rattle.aveluafi.proofs.in_place.aveluafi_packet_pad.Tie as tie
 
 returns : tie.Need-returns
 returns c =
-    let r = c .before .before .opus-packet-pad in
-    let s = c .before .before .before .before .before in
+    let e = c .before .before in
+    let r = e .opus-packet-pad in
+    let s = e .before .before .before in
     let back : toZ w32 (ofZ w32 (r .result)) ≡ r .result = search needs in
     meets (pad-passed (s .args .«data» .now) (s .args .len) (s .args .new-len) (s .fits .len) (s .fits .new-len)) (back ∙ r .ensures .0) (r .ensures .1)
 

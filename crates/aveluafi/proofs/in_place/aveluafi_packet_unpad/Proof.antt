@@ -11,8 +11,9 @@ use Rattle.aveluafi.proofs.in_place.aveluafi_packet_unpad.Tie as tie
 
 returns : tie.Need-returns
 returns c =
-    let r = c .before .before .opus-packet-unpad in
-    let s = c .before .before .before .before .before in
+    let e = c .before .before in
+    let r = e .opus-packet-unpad in
+    let s = e .before .before .before in
     let back : toZ w32 (ofZ w32 (r .result)) ≡ r .result = search needs in
     meets (unpad-passed (s .args .«data» .now) (s .args .len) (s .fits .len)) (back ∙ r .ensures .0) (r .ensures .1)
 

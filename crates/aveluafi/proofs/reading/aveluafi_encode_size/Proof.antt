@@ -11,8 +11,9 @@ use Rattle.aveluafi.proofs.reading.aveluafi_encode_size.Tie as tie
 
 returns : tie.Need-returns
 returns c =
-    let r = c .before .before .encode-size in
-    let s = c .before .before .before .before .before in
+    let e = c .before .before in
+    let r = e .encode-size in
+    let s = e .before .before .before in
     let back : toZ w32 (ofZ w32 (r .result)) ≡ r .result = search needs in
     meets (size-passed (s .args .size) (s .args .«data» .now) (s .fits .size)) (back ∙ r .ensures .0) (r .ensures .1)
 

@@ -11,8 +11,9 @@ use Rattle.aveluafi.proofs.reading.aveluafi_packet_parse_impl.Tie as ti
 
 cast-t9 : tie.Need-cast-t9
 cast-t9 c =
-    let r = c .before .before .before .read-into in
-    let k = c .before .before .before .before .before in
+    let p = c .before .before .before in
+    let r = p .read-into in
+    let k = p .before .before in
     let a = k .before .args in
     omega (
       arith,
@@ -21,16 +22,18 @@ cast-t9 c =
 
 returns : tie.Need-returns
 returns c =
-    let r = c .before .before .before .before .read-into in
-    let a = c .before .before .before .before .before .before .before .args in
+    let p = c .before .before .before .before in
+    let r = p .read-into in
+    let a = p .before .before .before .args in
     let n = c .number-of in
     let back : toZ w32 (ofZ w32 (n .result)) ≡ n .result = search needs in
     record-read (a .self-delimited) (a .«data» .now) (r .result) (r .last .1 .1 .0) (r .ensures) (c .before .before .enum-told .given .1) (back ∙ n .ensures)
 
 returns-2 : tie.Need-returns-2
 returns-2 c =
-    let r = c .before .before .before .before .read-into in
-    let a = c .before .before .before .before .before .before .before .args in
+    let p = c .before .before .before .before in
+    let r = p .read-into in
+    let a = p .before .before .before .args in
     c .no-packet .ensures ∙ record-unread (a .self-delimited) (a .«data» .now) (r .result) (r .last .1 .1 .0) (r .ensures) (c .before .before .v .given .1)
 
 pub aveluafi-packet-parse-impl-spec : {M : Type 1} → statement M
