@@ -1,5 +1,6 @@
 // Writes cases of the replay protocol to standard output: `generate SEED COUNT` for so many random ones, `generate short` for every packet of 0, 1 and
-// 2 bytes through every call. The same seed and count give the same bytes.
+// 2 bytes through every call. `generate stages SEED COUNT` writes so many packets to be padded in two steps (tests/stages). The same seed and count
+// give the same bytes.
 use std::io::Write;
 
 // xorshift64*: small, seeded, the same everywhere.
@@ -428,6 +429,23 @@ fn case(r: &mut Random, out: &mut Vec<u8>) {
     }
 }
 
+// A packet to be padded in two steps: its streams (0 for an ordinary one), two lengths of which none is below its own, and the packet.
+fn stages(r: &mut Random, out: &mut Vec<u8>) {
+    let streams = if r.chance(75) { 0 } else { r.between(1, 5) };
+    let mut p = match streams {
+        0 if r.chance(95) => good_packet(r, false, None),
+        0 => packet(r, false, None),
+        _ => streams_packet(r, streams),
+    };
+    p.truncate(65535);
+    let one = new_length(r, p.len()).clamp(p.len() as i32, 65535);
+    let two = new_length(r, one as usize).clamp(one, 65535);
+    put(out, streams as i32);
+    put(out, one);
+    put(out, two);
+    put_bytes(out, &p);
+}
+
 // One packet through every call.
 fn every_call(out: &mut Vec<u8>, p: &[u8]) {
     for d in 0..2 {
@@ -480,15 +498,20 @@ fn main() {
         }
         return;
     }
-    let numbers: Option<Vec<u64>> = words.iter().map(|w| w.parse().ok()).collect();
+    let staged = words.len() == 3 && words[0] == "stages";
+    let numbers: Option<Vec<u64>> = words[staged as usize..].iter().map(|w| w.parse().ok()).collect();
     let Some([seed, count]) = numbers.as_deref() else {
-        eprintln!("usage: generate SEED COUNT | generate short");
+        eprintln!("usage: generate SEED COUNT | generate short | generate stages SEED COUNT");
         std::process::exit(2);
     };
     // a seed of 0 would stay 0
     let mut r = Random(seed.wrapping_mul(0x9E37_79B9_7F4A_7C15) | 1);
     for _ in 0..*count {
-        case(&mut r, &mut out);
+        if staged {
+            stages(&mut r, &mut out);
+        } else {
+            case(&mut r, &mut out);
+        }
         to.write_all(&out).unwrap();
         out.clear();
     }

@@ -194,9 +194,35 @@ fn stream_cases() {
     streams_unpad(&mut two, 8, 2);
 }
 
+// Padded by stages and straight on, to the same bytes; unpadded twice (document 02, M-112).
+fn stage_cases() {
+    let mut stages = [3u8, 2, 0xaa, 0xbb, 0, 0, 0, 0];
+    pad(&mut stages, 4, 6);
+    pad(&mut stages, 6, 8);
+    let mut straight = [3u8, 2, 0xaa, 0xbb, 0, 0, 0, 0];
+    pad(&mut straight, 4, 8);
+    let mut alike = [1u8, 0xaa, 0xbb, 0, 0, 0, 0, 0];
+    pad(&mut alike, 3, 8);
+    let mut padded = [3u8, 0x41, 1, 0xaa, 0];
+    unpad(&mut padded, 5);
+    unpad(&mut padded, 2);
+}
+
+fn stream_stage_cases() {
+    let mut stages = [0u8, 1, 0xaa, 0, 0xbb, 0, 0, 0, 0];
+    streams_pad(&mut stages, 5, 7, 2);
+    streams_pad(&mut stages, 7, 9, 2);
+    let mut straight = [0u8, 1, 0xaa, 0, 0xbb, 0, 0, 0, 0];
+    streams_pad(&mut straight, 5, 9, 2);
+    streams_unpad(&mut straight, 9, 2);
+    streams_unpad(&mut straight, 5, 2);
+}
+
 fn main() {
     collector_cases();
     pad_cases();
     stream_cases();
     rebuilt_cases();
+    stage_cases();
+    stream_stage_cases();
 }

@@ -12,7 +12,7 @@ use mathlib.Core.Path.{_≡_, refl, sym, ap, _∙_}
 use mathlib.Core.List.{List, [], _∷_, _++_, append-assoc, append-nil}
 use mathlib.Core.Bool.{Bool, true, false}
 use lib.ListN.{length, take, drop}
-use lib.Seq.{drop-append-seam, drop-drop, take-add}
+use lib.Seq.{drop-append-seam, drop-drop, take-add, length-take-le}
 use Rattle.laws.specs.Bytes.{Bytes}
 use Rattle.laws.proofs.Bytes.{bytes-drop}
 use Rattle.laws.proofs.Never.{never}
@@ -69,6 +69,11 @@ spelled-streams {c = c} w rest b next =
     let frames-are = rw reads at (spelled-frames w rest b) in
     rw (reads, spelled-six w, frames-are, drop-append-seam c rest)
 
+-- and it is passed over likewise
+spelled-passed : {six : ℕ} {c : List ℕ} {frames : List (List ℕ)} → Spells true six c frames → {n : ℕ} → length c ≡ n → (k at : ℕ) (rest : List ℕ)
+    → passStreams k rest ≡ Past at → passStreams (suc k) (c ++ rest) ≡ Past (n + at)
+spelled-passed {c = c} w e k at rest h = rw (spelled-read w rest tt, drop-append-seam c rest, h, e)
+
 module _ (sd : Bool) (next : List ℕ → Streams) (p : List ℕ) (bytes : Bytes p) (xs : List Stream) (h : Held sd next p xs) where
   abbrev pub frames : List (List ℕ)
   frames = cut (h .ns) (drop (h .first) p)
@@ -83,6 +88,9 @@ module _ (sd : Bool) (next : List ℕ → Streams) (p : List ℕ) (bytes : Bytes
   held-some =
       let f = facts sd p (h .toc) (h .ns) (h .first) (h .taken) bytes (h .means) in
       omega (arith, f .headed, f .block, f .within)
+
+  taken-size : length (take (h .taken) p) ≡ h .taken
+  taken-size = length-take-le (h .taken) p (read-spelled sd p (h .toc) (h .ns) (h .first) (h .taken) bytes (h .means) .within)
 
   -- any bytes that spell the stream may take its place
   pub exchanged : {c : List ℕ} → Spells sd six c frames → (rest : List ℕ) → Behind sd rest → next rest ≡ streams (h .others)
@@ -125,16 +133,17 @@ compact-holds (suc k) p bytes xs e =
     ∙ exchanged true next p bytes xs h (compact-of (was true next p bytes xs h)) (compactStreams k (h .others)) tt rest
 
 -- ---- the last stream
--- it is at a place behind the others, and anything that reads as it may take its place
+-- it is at a place behind the others, where anything may stand in its place, and what reads as it keeps the streams
 pub record LastOf (k : ℕ) (p : List ℕ) (xs : List Stream) : Type 0 where
   pub at : ℕ
   pub passed : passStreams k p ≡ Past at
   pub last : List Stream
   pub reads : readStreams 0 (drop at p) ≡ streams last
+  pub stays : (v : List ℕ) → passStreams k (take at p ++ v) ≡ Past at
   pub keeps : (v : List ℕ) → readStreams 0 v ≡ streams last → readStreams k (take at p ++ v) ≡ streams xs
 
 pub last-of : (k : ℕ) (p : List ℕ) → Bytes p → (xs : List Stream) → readStreams k p ≡ streams xs → LastOf k p xs
-last-of zero p bytes xs e = record { at = 0; passed = refl; last = xs; reads = e; keeps = λ v r. r }
+last-of zero p bytes xs e = record { at = 0; passed = refl; last = xs; reads = e; stays = λ v. refl; keeps = λ v r. r }
 last-of (suc k) p bytes xs e =
     let h = held true (readStreams k) p xs e in
     let n = h .taken in
@@ -144,6 +153,10 @@ last-of (suc k) p bytes xs e =
       passed = rw (h .means, l .passed);
       last = l .last;
       reads = rw (drop-drop (l .at) n p) at (l .reads);
+      stays =
+          λ v. rw (take-add n (l .at) p, append-assoc (take n p) (take (l .at) (drop n p)) v)
+          (spelled-passed (was true (readStreams k) p bytes xs h) (taken-size true (readStreams k) p bytes xs h) k (l .at)
+          (take (l .at) (drop n p) ++ v) (l .stays v));
       keeps =
           λ v r. rw (take-add n (l .at) p, append-assoc (take n p) (take (l .at) (drop n p)) v)
           (exchanged true (readStreams k) p bytes xs h (was true (readStreams k) p bytes xs h) (take (l .at) (drop n p) ++ v) tt (l .keeps v r));

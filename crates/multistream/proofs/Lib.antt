@@ -6,6 +6,7 @@ pub mod Calls
 pub mod Repacking
 pub mod Holding
 pub mod Written
+pub mod Stages
 pub mod Roomy
 pub mod Promises
 pub mod Examples

@@ -21,6 +21,7 @@ use Rattle.multistream.specs.Unpad.{unpadStreams, streamsUnpadded}
 use Rattle.multistream.specs.Reading.{Stream, streams, readStreams, compactStreams}
 use Rattle.multistream.proofs.Written.{compact-within, unpad-compact, readable-some-bytes, pad-equal, pad-holds, pad-unpad}
 use Rattle.multistream.proofs.Holding.{compact-holds}
+use Rattle.multistream.proofs.Stages.{pad-stages, unpad-again}
 use Rattle.multistream.proofs.Roomy.{unpad-roomy}
 
 -- a multistream packet of k + 1 streams that can be read, in the first len bytes of a buffer
@@ -53,6 +54,16 @@ module _ (s : List ℕ) (bytes : Bytes s) (len : ℕ) (fits : len ≤ length s) 
       by-test (eqb len new)
       (λ e. rw (← eqb-true len new e, pad-equal s bytes len fits most k few xs r) unpad-is-compact)
       (λ e. pad-unpad s bytes len fits most k few xs r new (omega (arith, eqb-false len new e)) room short)
+
+  -- M-112. Padded to n and then to m, it is what padding straight to m leaves: the number, and every byte of the buffer.
+  pub pad-by-stages : (n m : ℕ) → len ≤ n → n ≤ m → m ≤ length s → m ≤ 65535
+      → let after = streamsPadded s (pos len) (pos n) (pos (suc k)) .bytes in
+      streamsPadded after (pos n) (pos m) (pos (suc k)) ≡ streamsPadded s (pos len) (pos m) (pos (suc k))
+  pad-by-stages = pad-stages s bytes len fits most k few xs r
+
+  -- Unpadded twice, it is what unpadding once gives, in number and bytes.
+  pub unpad-twice : let once = streamsUnpadded s (pos len) (pos (suc k)) in streamsUnpadded (once .bytes) (once .number) (pos (suc k)) ≡ once
+  unpad-twice = unpad-again s bytes len fits most k few xs r
 
 -- Unpad never lacks room: whatever the buffer, the length and the number of streams, it does not answer -2.
 pub unpad-never-lacks-room : (s : List ℕ) (len nb : ℤ) → streamsUnpadded s len nb .number ≡ negsuc 1 → ⊥

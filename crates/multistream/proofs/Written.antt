@@ -1,8 +1,10 @@
 -- What pad and unpad write for a readable multistream packet.
---     pad-streams        pad of a packet p: a packet that holds the same streams
+--     refilled           the packet with its last stream filled up: what pad of it writes,
+--     pad-again          also where its last stream was filled up before
 --     compact-within     their compact packets are no longer than any packet that holds them
 --     unpad-compact      unpad of the packet in the first bytes of a buffer: their compact packets
---     pad-holds          pad of it: a packet that holds the same streams
+--     pad-refills        pad of it: the packet with its last stream filled up,
+--     pad-holds          which holds the same streams
 --     pad-equal          pad to its own length: what was there
 --     pad-unpad          pad, then unpad: their compact packets
 -- Assumes nothing.
@@ -12,8 +14,8 @@ use mathlib.Core.Path.{_≡_, refl, sym, ap, _∙_}
 use mathlib.Core.List.{List, [], _++_, append-nil}
 use mathlib.Core.Bool.{false}
 use lib.IntN.{pos}
-use lib.ListN.{length, take, drop, length-append, length-drop}
-use lib.Seq.{sets, length-sets, length-take-le}
+use lib.ListN.{length, take, drop, length-append, length-drop, take-append-drop}
+use lib.Seq.{sets, length-sets, length-take-le, take-append-seam, drop-append-seam}
 use borrow.Author.Tests.{ne-eqb}
 use Rattle.laws.specs.Bytes.{Bytes}
 use Rattle.laws.proofs.Bytes.{bytes-drop, bytes-take}
@@ -41,62 +43,79 @@ module _ (k : ℕ) (p : List ℕ) (bytes : Bytes p) (xs : List Stream) (r : read
   others = omega arith
 
   -- the last stream
-  last : LastOf k p xs
+  pub last : LastOf k p xs
   last = last-of k p bytes xs r
 
   inside : last .at ≤ length p
   inside = pass-within k p (last .at) bytes (last .passed)
 
-  abbrev none : List ℕ → Streams
+  front-size : length (take (last .at) p) ≡ last .at
+  front-size = length-take-le (last .at) p inside
+
+  abbrev pub none : List ℕ → Streams
   none t = streams []
 
-  abbrev packet : List ℕ
+  abbrev pub packet : List ℕ
   packet = drop (last .at) p
 
-  packet-bytes : Bytes packet
+  pub packet-bytes : Bytes packet
   packet-bytes = bytes-drop (last .at) p bytes
 
-  found : Held false none packet (last .last)
+  pub found : Held false none packet (last .last)
   found = held false none packet (last .last) (last .reads)
 
-  abbrev its-six : ℕ
+  abbrev pub its-six : ℕ
   its-six = six false none packet packet-bytes (last .last) found
 
-  abbrev its-frames : List (List ℕ)
+  abbrev pub its-frames : List (List ℕ)
   its-frames = frames false none packet packet-bytes (last .last) found
 
   spelled : Spells false its-six packet its-frames
   spelled = read-whole packet (found .toc) (found .ns) (found .first) (found .taken) packet-bytes (found .means)
 
-  module _ (new : ℕ) (more : length p < new) where
-    abbrev filled : List ℕ
-    filled = filling false its-six its-frames (new - last .at)
+  -- the last stream filled up, and the streams before it in front of it
+  abbrev pub filled : ℕ → List ℕ
+  filled new = filling false its-six its-frames (new - last .at)
 
-    filled-reads : readStreams 0 filled ≡ streams (last .last)
-    filled-reads =
-        rw (append-nil filled) at
-        (exchanged false none packet packet-bytes (last .last) found (filling-of spelled (new - last .at)) [] refl (found .rest))
+  abbrev pub refilled : ℕ → List ℕ
+  refilled new = take (last .at) p ++ filled new
 
-    filled-size : length filled ≡ new - last .at
-    filled-size =
-        filling-length false its-six its-frames (new - last .at) (omega (arith, never-longer spelled, length-drop (last .at) p, inside))
+  filled-reads : (new : ℕ) → readStreams 0 (filled new) ≡ streams (last .last)
+  filled-reads new =
+      rw (append-nil (filled new)) at
+      (exchanged false none packet packet-bytes (last .last) found (filling-of spelled (new - last .at)) [] refl (found .rest))
 
-    pad-writes : padStreams (suc k) p new ≡ wrote 0 (take (last .at) p ++ filled)
-    pad-writes =
-        let left : length p - last .at ≡ 0 → ⊥ = λ z. omega (arith, spelled-some spelled, length-drop (last .at) p) in
-        pad-last p (suc k) new (last .at) (rw others (last .passed)) ∙ rw (ne-eqb (length p - last .at) 0 left, pads spelled (new - last .at))
+  pub refilled-size : (new : ℕ) → length p ≤ new → length (refilled new) ≡ new
+  refilled-size new more =
+      let size = filling-length false its-six its-frames (new - last .at) (omega (arith, never-longer spelled, length-drop (last .at) p, inside)) in
+      omega (arith, length-append (take (last .at) p) (filled new), front-size, size, inside)
 
-    pub pad-streams : (q : List ℕ) × (padStreams (suc k) p new ≡ wrote 0 q) × (readStreams k q ≡ streams xs) × (length q ≡ new)
-    pad-streams =
-        let at = last .at in
-        let front : length (take at p) ≡ at = length-take-le at p inside in
-        (take at p ++ filled, pad-writes, last .keeps filled filled-reads, omega (arith, length-append (take at p) filled, filled-size, inside))
+  -- whatever packet of its frames stands in the last stream's place, pad writes the same
+  pad-exchanged : (v : List ℕ) → Spells false its-six v its-frames → (new : ℕ)
+      → padStreams (suc k) (take (last .at) p ++ v) new ≡ wrote 0 (refilled new)
+  pad-exchanged v w new =
+      let at = last .at in
+      let q = take at p ++ v in
+      let front : take at q ≡ take at p = rw front-size at (take-append-seam (take at p) v) in
+      let back : drop at q ≡ v = rw front-size at (drop-append-seam (take at p) v) in
+      let left : length q - at ≡ 0 → ⊥ = λ z. omega (arith, spelled-some w, length-append (take at p) v, front-size) in
+      pad-last q (suc k) new at (rw others (last .stays v)) ∙ rw (ne-eqb (length q - at) 0 left, front, back, pads w (new - at))
+
+  pub pad-writes : (new : ℕ) → padStreams (suc k) p new ≡ wrote 0 (refilled new)
+  pad-writes new = rw (take-append-drop (last .at) p) at (pad-exchanged packet spelled new)
+
+  -- padding what was padded
+  pub pad-again : (n m : ℕ) → padStreams (suc k) (refilled n) m ≡ wrote 0 (refilled m)
+  pad-again n m = pad-exchanged (filled n) (filling-of spelled (n - last .at)) m
+
+  pub refilled-holds : (new : ℕ) → readStreams k (refilled new) ≡ streams xs
+  refilled-holds new = last .keeps (filled new) (filled-reads new)
 
 pub compact-within : (k : ℕ) (p : List ℕ) → Bytes p → (xs : List Stream) → readStreams k p ≡ streams xs → length (compactStreams k xs) ≤ length p
 compact-within k p bytes xs r = rw (repack-compact k p xs r) at (packed-within k p bytes)
 
 -- ---- the packet in the first len bytes of a buffer
-count : (k : ℕ) → suc k ≤ 255 → streamsOf (pos (suc k)) ≡ suc k
+pub count : (k : ℕ) → suc k ≤ 255 → streamsOf (pos (suc k)) ≡ suc k
 count k few = sym (streams-some (pos (suc k)) (suc k) refl few)
 
 pub unpad-compact : (s : List ℕ) (len : ℕ) → 1 ≤ len → len ≤ length s → len ≤ 65535 → (k : ℕ) → suc k ≤ 255 → (xs : List Stream)
@@ -109,7 +128,7 @@ unpad-compact s len some fits most k few xs r =
 
 module _ (s : List ℕ) (bytes : Bytes s) (len : ℕ) (fits : len ≤ length s) (most : len ≤ 65535) (k : ℕ) (few : suc k ≤ 255) (xs : List Stream)
     (r : readStreams k (take len s) ≡ streams xs) where
-  all-bytes : Bytes (take len s)
+  pub all-bytes : Bytes (take len s)
   all-bytes = bytes-take len s bytes
 
   long : length (take len s) ≡ len
@@ -122,13 +141,25 @@ module _ (s : List ℕ) (bytes : Bytes s) (len : ℕ) (fits : len ≤ length s) 
   pad-equal =
       rw (pad-same s (pos len) (pos len) (pos (suc k)) (suc k) (count k few) (λ z. omega arith) (lengths-equal s len readable-some-bytes fits most))
 
+  -- the packet of so many bytes that pad writes
+  abbrev pub refill : ℕ → List ℕ
+  refill new = refilled k (take len s) all-bytes xs r new
+
+  pub refill-size : (new : ℕ) → len ≤ new → length (refill new) ≡ new
+  refill-size new more = refilled-size k (take len s) all-bytes xs r new (omega (arith, long))
+
+  pub refill-again : (n m : ℕ) → padStreams (suc k) (refill n) m ≡ wrote 0 (refill m)
+  refill-again = pad-again k (take len s) all-bytes xs r
+
   module _ (new : ℕ) (more : len < new) (room : new ≤ length s) (short : new ≤ 65535) where
-    pub pad-holds : (q : List ℕ) × (streamsPadded s (pos len) (pos new) (pos (suc k)) ≡ padsTo q s) × (readStreams k q ≡ streams xs) × (length q ≡ new)
-    pad-holds =
-        let h = pad-streams k (take len s) all-bytes xs r new (omega (arith, long)) in
+    pub pad-refills : streamsPadded s (pos len) (pos new) (pos (suc k)) ≡ padsTo (refill new) s
+    pad-refills =
         let given = lengths-own s len new readable-some-bytes more room short in
-        let call = pad-more s (pos len) (pos new) (pos (suc k)) (suc k) (count k few) (λ z. omega arith) len new given in
-        (h .0, call ∙ ap (leaves s) (h .1), h .2, h .3)
+        pad-more s (pos len) (pos new) (pos (suc k)) (suc k) (count k few) (λ z. omega arith) len new given
+        ∙ ap (leaves s) (pad-writes k (take len s) all-bytes xs r new)
+
+    pub pad-holds : (q : List ℕ) × (streamsPadded s (pos len) (pos new) (pos (suc k)) ≡ padsTo q s) × (readStreams k q ≡ streams xs) × (length q ≡ new)
+    pad-holds = (refill new, pad-refills, refilled-holds k (take len s) all-bytes xs r new, refill-size new (omega arith))
 
     pub pad-unpad : let after = streamsPadded s (pos len) (pos new) (pos (suc k)) .bytes in
         streamsUnpadded after (pos new) (pos (suc k)) ≡ writes (compactStreams k xs) after

@@ -42,6 +42,28 @@ rebuiltCases =
     ∷ shows (outcome (streamsUnpadded (0x00 ∷ 0x00 ∷ 0x00 ∷ []) (pos 3) (pos 2))) (leaves (pos 3) (0x00 ∷ 0x00 ∷ 0x00 ∷ []))
     ∷ []
 
+-- document 02, M-112: by stages as straight on, for packets with the same frames alike; unpadded again
+abbrev pub twoFrames : List ℕ
+twoFrames = 0x03 ∷ 0x02 ∷ 0xaa ∷ 0xbb ∷ replicate 4 0
+
+abbrev pub twoStreams : List ℕ
+twoStreams = 0x00 ∷ 0x01 ∷ 0xaa ∷ 0x00 ∷ 0xbb ∷ replicate 4 0
+
+abbrev pub onePadded : List ℕ
+onePadded = 0x03 ∷ 0x41 ∷ 0x01 ∷ 0xaa ∷ 0x00 ∷ []
+
+abbrev pub stageCases : List Case
+stageCases =
+    shows (outcome (padded (padded twoFrames (pos 4) (pos 6) .bytes) (pos 6) (pos 8))) (leaves (pos 0) (0x03 ∷ 0x42 ∷ 0x03 ∷ 0xaa ∷ 0xbb ∷ replicate 3 0))
+    ∷ shows (outcome (padded twoFrames (pos 4) (pos 8))) (leaves (pos 0) (0x03 ∷ 0x42 ∷ 0x03 ∷ 0xaa ∷ 0xbb ∷ replicate 3 0))
+    ∷ shows (outcome (padded (0x01 ∷ 0xaa ∷ 0xbb ∷ replicate 5 0) (pos 3) (pos 8))) (leaves (pos 0) (0x03 ∷ 0x42 ∷ 0x03 ∷ 0xaa ∷ 0xbb ∷ replicate 3 0))
+    ∷ shows (outcome (streamsPadded (streamsPadded twoStreams (pos 5) (pos 7) (pos 2) .bytes) (pos 7) (pos 9) (pos 2)))
+    (leaves (pos 0) (0x00 ∷ 0x01 ∷ 0xaa ∷ 0x03 ∷ 0x41 ∷ 0x02 ∷ 0xbb ∷ replicate 2 0))
+    ∷ shows (outcome (streamsPadded twoStreams (pos 5) (pos 9) (pos 2))) (leaves (pos 0) (0x00 ∷ 0x01 ∷ 0xaa ∷ 0x03 ∷ 0x41 ∷ 0x02 ∷ 0xbb ∷ replicate 2 0))
+    ∷ shows (outcome (unpadded onePadded (pos 5))) (leaves (pos 2) (0x00 ∷ 0xaa ∷ 0x01 ∷ 0xaa ∷ 0x00 ∷ []))
+    ∷ shows (outcome (unpadded (unpadded onePadded (pos 5) .bytes) (pos 2))) (leaves (pos 2) (0x00 ∷ 0xaa ∷ 0x01 ∷ 0xaa ∷ 0x00 ∷ []))
+    ∷ []
+
 -- document 01's order of refusals: more than one fault at once, and the first one in the order gives the number. The packet 03 00 cannot be read.
 -- What a refusal, or 0 without reading, leaves is the buffer as it was.
 abbrev pub unreadable : List ℕ
@@ -98,4 +120,4 @@ streamsOrder =
     ∷ []
 
 abbrev pub allCases : List Case
-allCases = readingCases ++ (padCases ++ (rebuiltCases ++ (lengthOrder ++ (padOrder ++ (unpadOrder ++ streamsOrder)))))
+allCases = readingCases ++ (padCases ++ (rebuiltCases ++ (stageCases ++ (lengthOrder ++ (padOrder ++ (unpadOrder ++ streamsOrder))))))

@@ -3,4 +3,5 @@ pub mod Framed
 pub mod Rewritten
 pub mod Calls
 pub mod Spelled
+pub mod Stages
 pub mod Promises

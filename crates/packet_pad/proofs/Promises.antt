@@ -2,7 +2,7 @@
 -- Assumes nothing.
 use Prim.Native.Nat.{ℕ, _≤_, _<_}
 use native.Mathlib.Omega.{arith}
-use mathlib.Core.Path.{_≡_}
+use mathlib.Core.Path.{_≡_, sym, _∙_}
 use mathlib.Core.List.{List}
 use mathlib.Core.Bool.{false}
 use lib.Dec.{eqb}
@@ -26,6 +26,7 @@ use Rattle.packet_pad.specs.Lengths.{lengthOf, lengthsOf, bounded, byLen
 use Rattle.packet_pad.specs.Pad.{padsTo, padPacket, padded}
 use Rattle.packet_pad.specs.Unpad.{unpadPacket, unpadded}
 use Rattle.packet_pad.proofs.Spelled.{read-whole, reads-back, filling-of, pad-spelled, pad-equal, unpad-spelled, unpad-written}
+use Rattle.packet_pad.proofs.Stages.{pad-stages, pad-front, unpad-again}
 
 -- a packet that the reader accepts, in the first len bytes of a buffer
 module _ (s : List ℕ) (bytes : Bytes s) (len : ℕ) (fits : len ≤ length s) (most : len ≤ 65535) (toc : ℕ) (ns : List ℕ) (first taken : ℕ)
@@ -75,6 +76,27 @@ module _ (s : List ℕ) (bytes : Bytes s) (len : ℕ) (fits : len ≤ length s) 
       by-test (eqb len new)
       (λ e. rw (← eqb-true len new e, pad-equal s len fits most packet) unpad-is-compact)
       (λ e. pad-more-then-unpad new (omega (arith, eqb-false len new e)) room short)
+
+  -- M-112. Padded to n and then to m, it is what padding straight to m leaves: the number, and every byte of the buffer.
+  pub pad-by-stages : (n m : ℕ) → len ≤ n → n ≤ m → m ≤ length s → m ≤ 65535
+      → padded (padded s (pos len) (pos n) .bytes) (pos n) (pos m) ≡ padded s (pos len) (pos m)
+  pad-by-stages = pad-stages s len fits most packet
+
+  -- Unpadded twice, it is what unpadding once gives, in number and bytes.
+  pub unpad-twice : let once = unpadded s (pos len) in unpadded (once .bytes) (once .number) ≡ once
+  unpad-twice = unpad-again s len fits most packet
+
+-- M-112. Two packets with the same frames and upper six TOC bits, both shorter than m, pad to the same m bytes.
+module _ (s : List ℕ) (bytes : Bytes s) (len : ℕ) (toc : ℕ) (ns : List ℕ) (first taken : ℕ) (r : read false (take len s) ≡ accepted toc ns first taken)
+    (t : List ℕ) (other : Bytes t) (long : ℕ) (mark : ℕ) (ks : List ℕ) (from used : ℕ) (q : read false (take long t) ≡ accepted mark ks from used) where
+  pub same-frames-pad-alike : upperSix toc ≡ upperSix mark → cut ns (drop first (take len s)) ≡ cut ks (drop from (take long t))
+      → (m : ℕ) → len < m → long < m → m ≤ length s → m ≤ length t → m ≤ 65535
+      → take m (padded s (pos len) (pos m) .bytes) ≡ take m (padded t (pos long) (pos m) .bytes)
+  same-frames-pad-alike six frames m less fewer room space short =
+      let w = read-whole (take len s) toc ns first taken (bytes-take len s bytes) r in
+      let v = read-whole (take long t) mark ks from used (bytes-take long t other) q in
+      pad-front s len (omega arith) (omega arith) w m less room short
+      ∙ (rw (six, frames) (sym (pad-front t long (omega arith) (omega arith) v m fewer space short)))
 
 -- 7. A refusal leaves every byte.
 pub refused-pad-changes-nothing : (s : List ℕ) (len new : ℤ) (n : ℕ) → padded s len new .number ≡ negsuc n → padded s len new .bytes ≡ s
