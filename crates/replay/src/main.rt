@@ -1,69 +1,19 @@
 // Answers cases of the replay protocol, read from standard input, through the public calls: binary in, a line of text for each case out.
 // The buffers have a fixed size, however long the input is. A line is built in the output buffer, which has room for the longest, so that a
 // case that turns out to be cut short can take back what it has put there.
-mod collector;
-mod fields;
-mod in_place;
-mod input;
-mod output;
-mod reader;
-mod streams;
+use replay_collector::collect_case;
+use replay_in_place::in_place_case;
+use replay_io::input::ByteAt;
+use replay_io::input::Cursor;
+use replay_io::input::Line;
+use replay_io::input::byte;
+use replay_io::output::flushed;
+use replay_io::output::put;
+use replay_io::output::text;
+use replay_io::output::written;
+use replay_reading::reading_case;
 
-use crate::collector::collect_case;
-use crate::fields::encode_case;
-use crate::fields::frames_case;
-use crate::fields::length_case;
-use crate::fields::samples_case;
-use crate::in_place::pad_case;
-use crate::in_place::unpad_case;
-use crate::input::ByteAt;
-use crate::input::Cursor;
-use crate::input::Line;
-use crate::input::byte;
-use crate::output::flushed;
-use crate::output::put;
-use crate::output::text;
-use crate::output::written;
-use crate::reader::read_case;
-use crate::streams::streams_pad_case;
-use crate::streams::streams_unpad_case;
-
-fn later_kinds(
-    input: &mut [u8],
-    c: Cursor,
-    work: &mut [u8],
-    out: &mut [u8],
-    at: usize,
-    kind: u8,
-) -> Line {
-    match kind {
-        6 => streams_unpad_case(input, c, work, out, at),
-        7 => encode_case(input, c, work, out, at),
-        8 => length_case(input, c, work, out, at),
-        9 => frames_case(input, c, work, out, at),
-        10 => samples_case(input, c, work, out, at),
-        _ => Line::Malformed,
-    }
-}
-
-fn other_kinds(
-    input: &mut [u8],
-    c: Cursor,
-    work: &mut [u8],
-    out: &mut [u8],
-    at: usize,
-    kind: u8,
-) -> Line {
-    match kind {
-        1 => read_case(input, c, work, out, at),
-        3 => pad_case(input, c, work, out, at),
-        4 => unpad_case(input, c, work, out, at),
-        5 => streams_pad_case(input, c, work, out, at),
-        _ => later_kinds(input, c, work, out, at, kind),
-    }
-}
-
-// Only the collector needs the store.
+// Which crate answers a kind. Only the collector needs the store.
 fn case(
     input: &mut [u8],
     c: Cursor,
@@ -73,10 +23,11 @@ fn case(
     at: usize,
     kind: u8,
 ) -> Line {
-    if kind == 2 {
-        return collect_case(input, c, work, store, out, at);
+    match kind {
+        2 => collect_case(input, c, work, store, out, at),
+        3..=6 => in_place_case(input, c, work, out, at, kind),
+        _ => reading_case(input, c, work, out, at, kind),
     }
-    other_kinds(input, c, work, out, at, kind)
 }
 
 // A turn: whether the program goes on, and where the input and the output do.

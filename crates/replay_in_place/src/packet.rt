@@ -1,11 +1,11 @@
 // Kinds 3 and 4: pad and unpad, in place.
-use crate::input::Cursor;
-use crate::input::Line;
-use crate::input::MOST;
-use crate::input::NumberAt;
-use crate::input::bytes;
-use crate::input::length;
-use crate::output::number_and_buffer;
+use replay_io::input::Cursor;
+use replay_io::input::Line;
+use replay_io::input::MOST;
+use replay_io::input::NumberAt;
+use replay_io::input::bytes;
+use replay_io::input::length;
+use replay_io::output::number_and_buffer;
 
 pub fn most(a: usize, b: usize) -> usize {
     if a < b { b } else { a }

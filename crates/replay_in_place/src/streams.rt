@@ -1,15 +1,15 @@
 // Kinds 5 and 6: the multistream calls.
-use crate::in_place::as_i32;
-use crate::in_place::most;
-use crate::in_place::zeros;
-use crate::input::Cursor;
-use crate::input::Line;
-use crate::input::NumberAt;
-use crate::input::bytes;
-use crate::input::four;
-use crate::input::length;
-use crate::input::signed;
-use crate::output::number_and_buffer;
+use crate::packet::as_i32;
+use crate::packet::most;
+use crate::packet::zeros;
+use replay_io::input::Cursor;
+use replay_io::input::Line;
+use replay_io::input::NumberAt;
+use replay_io::input::bytes;
+use replay_io::input::four;
+use replay_io::input::length;
+use replay_io::input::signed;
+use replay_io::output::number_and_buffer;
 
 fn streams_pad(work: &mut [u8], n: usize, new: usize, size: usize, streams: usize) -> i32 {
     if work.len() < size {

@@ -1,23 +1,21 @@
-// Kind 2: an empty collector, adds, and an output.
-use crate::input::ByteAt;
-use crate::input::Cursor;
-use crate::input::Line;
-use crate::input::NumberAt;
-use crate::input::byte;
-use crate::input::bytes;
-use crate::input::four;
-use crate::input::length;
-use crate::input::signed;
-use crate::output::buffer;
-use crate::output::number;
-use crate::output::put;
-use crate::output::refusal;
-use crate::output::text;
+// Kind 2 of the replay protocol: an empty collector, adds, and an output.
 use opus_defines::Verdict;
 use repacketizer::OpusRepacketizer;
-
-// What a byte holds before a call where the case does not give it.
-const UNSET: u8 = 238;
+use replay_io::input::ByteAt;
+use replay_io::input::Cursor;
+use replay_io::input::Line;
+use replay_io::input::NumberAt;
+use replay_io::input::byte;
+use replay_io::input::bytes;
+use replay_io::input::four;
+use replay_io::input::length;
+use replay_io::input::signed;
+use replay_io::output::buffer;
+use replay_io::output::number;
+use replay_io::output::put;
+use replay_io::output::refusal;
+use replay_io::output::text;
+use replay_io::room::unset;
 
 // What a case of the collector asks for: the output behind the adds, and how many adds.
 struct Order {
@@ -161,13 +159,6 @@ fn add_all(
         left -= 1;
     }
     s
-}
-
-// Fills the first n bytes of the workination.
-pub fn unset(work: &mut [u8], n: usize) {
-    if n <= work.len() {
-        blocks::fill(work, 0, n, UNSET);
-    }
 }
 
 fn out_range(rp: OpusRepacketizer, store: &[u8], o: Order, work: &mut [u8]) -> i32 {

@@ -1,19 +1,19 @@
 // Kinds 7 to 10: length fields, the frame count and samples.
-use crate::collector::unset;
-use crate::input::ByteAt;
-use crate::input::Cursor;
-use crate::input::Line;
-use crate::input::NumberAt;
-use crate::input::byte;
-use crate::input::bytes;
-use crate::input::four;
-use crate::input::signed;
-use crate::output::decimal;
-use crate::output::number;
-use crate::output::number_and_buffer;
-use crate::output::refusal;
 use crate::reader::one_size;
 use opus_defines::Verdict;
+use replay_io::input::ByteAt;
+use replay_io::input::Cursor;
+use replay_io::input::Line;
+use replay_io::input::NumberAt;
+use replay_io::input::byte;
+use replay_io::input::bytes;
+use replay_io::input::four;
+use replay_io::input::signed;
+use replay_io::output::decimal;
+use replay_io::output::number;
+use replay_io::output::number_and_buffer;
+use replay_io::output::refusal;
+use replay_io::room::unset;
 
 fn encode(work: &mut [u8], size: usize, room: usize) -> i32 {
     if work.len() < room {

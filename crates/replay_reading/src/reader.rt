@@ -1,15 +1,15 @@
 // Kind 1: the packet reader.
-use crate::input::ByteAt;
-use crate::input::Cursor;
-use crate::input::Line;
-use crate::input::NumberAt;
-use crate::input::byte;
-use crate::input::bytes;
-use crate::output::decimal;
-use crate::output::put;
-use crate::output::refusal;
 use opus::Packet;
 use opus_defines::Verdict;
+use replay_io::input::ByteAt;
+use replay_io::input::Cursor;
+use replay_io::input::Line;
+use replay_io::input::NumberAt;
+use replay_io::input::byte;
+use replay_io::input::bytes;
+use replay_io::output::decimal;
+use replay_io::output::put;
+use replay_io::output::refusal;
 
 pub fn one_size(out: &mut [u8], at: usize, n: u16) -> usize {
     let next = put(out, at, b' ');

@@ -1,11 +1,11 @@
--- `replay::input::take` is safe and ends: each piece lies within the n bytes, and none is empty.
+-- `replay_io::input::take` is safe and ends: each piece lies within the n bytes, and none is empty.
 -- Assumes nothing.
 use mathlib.Core.Path.{_≡_}
 use Prim.Native.Nat.{_-_, _≤_}
 use borrow.Author.Needs.{needs}
 use lib.ListN.{length}
-use Rattle.replay.proofs.input.take.Statement.{statement}
-use Rattle.replay.proofs.input.take.Tie as tie
+use Rattle.replay_io.proofs.input.take.Statement.{statement}
+use Rattle.replay_io.proofs.input.take.Tie as tie
 
 abbrev Inv-loop : tie.InvT-loop
 Inv-loop input₀ work₀ n next₀ done₀ input work next done = (done ≤ n) × (length input ≡ length input₀) × (length work ≡ length work₀)
