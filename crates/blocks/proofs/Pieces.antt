@@ -29,8 +29,8 @@ part-before l at (v ∷ vs) from n h =
     part-before (set l at v) (suc at) vs from n h′ ∙ rw e at (part-set l from (at - from) v n k)
 
 -- what is written from a buffer is what was read into it
-pub held : (z d : List ℕ) (at : ℕ) (s : List ℕ) (from k : ℕ) {b d′ : List ℕ} → b ≡ copied z 0 s from k → d′ ≡ copied d at b 0 k → k ≤ length z
-    → from + k ≤ length s
+pub held : (z d : List ℕ) (at : ℕ) (s : List ℕ) (from k : ℕ) {b d′ : List ℕ} → b ≡ copied z 0 s from k → d′ ≡ copied d at b 0 k
+    → k ≤ length z → from + k ≤ length s
     → d′ ≡ copied d at s from k
 held z d at s from k eb ed h fits =
     let e : length (part s from k) ≡ k = length-part s from k fits in
@@ -51,7 +51,8 @@ copied-over d at s from j m k h fits =
     rw (part-append s from j m, part-append s from j k, sets-append d at p q, sets-append d at p r, e) (sets-over (sets d at p) (at + j) q r h′)
 
 -- i elements are copied: a piece of k begins among them, or right after them, and ends past them
-pub copied-more : (d : List ℕ) (at : ℕ) (s : List ℕ) (from i j k n : ℕ) {m d′ : List ℕ} → m ≡ copied d at s from i → d′ ≡ copied m (at + j) s (from + j) k
+pub copied-more : (d : List ℕ) (at : ℕ) (s : List ℕ) (from i j k n : ℕ) {m d′ : List ℕ}
+    → m ≡ copied d at s from i → d′ ≡ copied m (at + j) s (from + j) k
     → j ≤ i → i ≤ n → n ≡ j + k → from + n ≤ length s → d′ ≡ copied d at s from n
 copied-more d at s from i j k n em ed h h′ e fits =
     let ei : i ≡ j + (i - j) = omega arith in
@@ -78,7 +79,8 @@ copied-under d at s from i m r fits =
     (sets-again (sets d at p) (at + i) q u)
 
 -- all but the first i of n elements are copied: a piece of the first k ends among them, or right before them
-pub copied-less : (d : List ℕ) (at : ℕ) (s : List ℕ) (from i k n : ℕ) {m d′ : List ℕ} → m ≡ copied d (at + i) s (from + i) (n - i) → d′ ≡ copied m at s from k
+pub copied-less : (d : List ℕ) (at : ℕ) (s : List ℕ) (from i k n : ℕ) {m d′ : List ℕ}
+    → m ≡ copied d (at + i) s (from + i) (n - i) → d′ ≡ copied m at s from k
     → i ≤ k → k ≤ n → from + n ≤ length s → d′ ≡ copied d at s from n
 copied-less d at s from i k n em ed h h′ fits =
     let ei : k - i + (n - k) ≡ n - i = omega arith in
@@ -99,8 +101,8 @@ moved-next s from to i k {m} em es h fits =
     copied-more s to s from i i k (i + k) em (es ∙ ap (sets m (to + i)) read) (omega arith) (omega arith) refl fits
 
 -- upward, from the last to the first: f, t and c are the places and the count after the turn, f⁺, t⁺ and c⁻ those before it
-pub moved-prev : (s : List ℕ) (f t c f⁺ t⁺ c⁻ k : ℕ) {m s′ : List ℕ} → m ≡ moved s f⁺ t⁺ c⁻ → s′ ≡ moved m f t k → f⁺ ≡ f + k → t⁺ ≡ t + k → c ≡ k + c⁻
-    → f ≤ t → f + c ≤ length s
+pub moved-prev : (s : List ℕ) (f t c f⁺ t⁺ c⁻ k : ℕ) {m s′ : List ℕ} → m ≡ moved s f⁺ t⁺ c⁻ → s′ ≡ moved m f t k
+    → f⁺ ≡ f + k → t⁺ ≡ t + k → c ≡ k + c⁻ → f ≤ t → f + c ≤ length s
     → s′ ≡ moved s f t c
 moved-prev s f t c f⁺ t⁺ c⁻ k {m} em es ef et ec h fits =
     let before : f + k ≤ t⁺ = omega arith in

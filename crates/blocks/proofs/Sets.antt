@@ -26,7 +26,8 @@ set-sets l i a at (v ∷ vs) h =
     set-sets (set l at v) i a (suc at) vs h′ ∙ ap (λ (m : List ℕ). sets m (suc at) vs) (sym (set-comm l i at a v ne))
 
 -- two runs that do not meet may change places
-pub sets-sets : (l : List ℕ) (at : ℕ) (us : List ℕ) (bt : ℕ) (vs : List ℕ) → at + length us ≤ bt → sets (sets l bt vs) at us ≡ sets (sets l at us) bt vs
+pub sets-sets : (l : List ℕ) (at : ℕ) (us : List ℕ) (bt : ℕ) (vs : List ℕ) → at + length us ≤ bt
+    → sets (sets l bt vs) at us ≡ sets (sets l at us) bt vs
 sets-sets l at [] bt vs h = refl
 sets-sets l at (u ∷ us) bt vs h =
     let h′ : at < bt = omega arith in
@@ -34,7 +35,8 @@ sets-sets l at (u ∷ us) bt vs h =
     rw (set-sets l at u bt vs) (sets-sets (set l at u) (suc at) us bt vs k)
 
 -- a run that is laid right before another makes one run with it
-pub sets-before-sets : (l : List ℕ) (at : ℕ) (us : List ℕ) (bt : ℕ) (vs : List ℕ) → at + length us ≡ bt → sets (sets l bt vs) at us ≡ sets l at (us ++ vs)
+pub sets-before-sets : (l : List ℕ) (at : ℕ) (us : List ℕ) (bt : ℕ) (vs : List ℕ) → at + length us ≡ bt
+    → sets (sets l bt vs) at us ≡ sets l at (us ++ vs)
 sets-before-sets l at us bt vs e =
     let h : at + length us ≤ bt = omega arith in
     rw (sets-sets l at us bt vs, sets-append, e)

@@ -43,7 +43,8 @@ splits-on s at a (d ∷ done) more h f next e =
     let b = behind (nextRecord s at) in
     record { answer = later-answer s at b a (omega (arith, next-moves s at h f)) (n .answer); rest = n .rest }
 
-pub splits : (s : List ℕ) (at : ℕ) (done more : List NextRecord) (a : NextRecord) → at ≤ length s → readings s at ≡ done ++ (a ∷ more) → Splits s at a more
+pub splits : (s : List ℕ) (at : ℕ) (done more : List NextRecord) (a : NextRecord) → at ≤ length s → readings s at ≡ done ++ (a ∷ more)
+    → Splits s at a more
 splits s at done more a h =
     reading-induction s (λ at r. (done : List NextRecord) → r ≡ done ++ (a ∷ more) → Splits s at a more)
     (λ at h z done. splits-end s at a done more h z) (λ at h f next done. splits-on s at a done more h f next) at h done

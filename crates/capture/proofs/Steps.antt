@@ -26,7 +26,8 @@ module _ (s : List ℕ) (at : ℕ) where
   in-end zero e = refl
   in-end (suc most) e = simp (eq-eqb (nextRecord s at .length) 0 e)
 
-  in-on : (most : ℕ) → (nextRecord s at .length ≡ 0 → ⊥) → readingsIn (suc most) s at ≡ nextRecord s at ∷ readingsIn most s (behind (nextRecord s at))
+  in-on : (most : ℕ) → (nextRecord s at .length ≡ 0 → ⊥)
+      → readingsIn (suc most) s at ≡ nextRecord s at ∷ readingsIn most s (behind (nextRecord s at))
   unfolding readingsIn
   in-on most f = simp (ne-eqb (nextRecord s at .length) 0 f)
 
@@ -41,7 +42,8 @@ none-left s at h k =
 both-end : (f g : ℕ) (s : List ℕ) (at : ℕ) → nextRecord s at .length ≡ 0 → readingsIn f s at ≡ readingsIn g s at
 both-end f g s at e = in-end s at f e ∙ sym (in-end s at g e)
 
-same-readings : (f g : ℕ) (s : List ℕ) (at : ℕ) → at ≤ length s → length s - at ≤ f → length s - at ≤ g → readingsIn f s at ≡ readingsIn g s at
+same-readings : (f g : ℕ) (s : List ℕ) (at : ℕ) → at ≤ length s → length s - at ≤ f → length s - at ≤ g
+    → readingsIn f s at ≡ readingsIn g s at
 same-readings zero g s at h k l = both-end zero g s at (none-left s at h k)
 same-readings (suc f) zero s at h k l = both-end (suc f) zero s at (none-left s at h l)
 same-readings (suc f) (suc g) s at h k l =

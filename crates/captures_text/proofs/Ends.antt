@@ -23,8 +23,8 @@ module _ (s : List ℕ) (at : ℕ) (l : List ℕ) where
   abbrev Said : Part → List ℕ → ℕ → ℕ → Type 0
   Said p d n next = (d ≡ sets l 0 (p .text)) × ((n ≡ length (p .text)) × ((next ≡ p .next) × Counts n d))
 
-  ends-as : (p : Part) {d : List ℕ} {n next : ℕ} → partFrom s at (length l) ≡ p → d ≡ sets l 0 (p .text) → n ≡ length (p .text) → next ≡ p .next
-      → n ≤ length l → Said (partFrom s at (length l)) d n next
+  ends-as : (p : Part) {d : List ℕ} {n next : ℕ} → partFrom s at (length l) ≡ p → d ≡ sets l 0 (p .text) → n ≡ length (p .text)
+      → next ≡ p .next → n ≤ length l → Said (partFrom s at (length l)) d n next
   ends-as p e b c g h =
       let room : length (p .text) ≤ length l = omega arith in
       rw e (b, (c, (g, rw (b, c) (front-counts l (p .text) room))))

@@ -55,9 +55,10 @@ module _ {s : List ℕ} {start : ℕ} {l d : List ℕ} {at n : ℕ} (p : Filled 
 
       pub filled-more : {d′ : List ℕ} {n′ : ℕ} → Laid d n (recordLine a) d′ n′ → Filled s start l d′ (a .place + 5 + a .length) n′
       filled-more {n′ = n′} k =
-          let left : length l - n - length (recordLine a) ≡ length l - n′ = omega (arith, k .place) in
-          let step : linesIn (length s) s at (length l - n) ≡ withLine (recordLine a) (linesIn (length s) s (behind a) (length l - n - length (recordLine a))) =
-          rw e (lines-more s at (length l - n) (omega (arith, filled-length)) (rw e at f)) in
+          let room = length l - n in
+          let left : room - length (recordLine a) ≡ length l - n′ = omega (arith, k .place) in
+          let step : linesIn (length s) s at room ≡ withLine (recordLine a) (linesIn (length s) s (behind a) (room - length (recordLine a))) =
+          rw e (lines-more s at room (omega (arith, filled-length)) (rw e at f)) in
           record {
             done = p .done ++ recordLine a;
             laid = laid-then (p .laid) (recordLine a) k;
@@ -65,17 +66,17 @@ module _ {s : List ℕ} {start : ℕ} {l d : List ℕ} {at n : ℕ} (p : Filled 
             rest = p .rest ∙ rw (step, left, turn-found .next, append-assoc);
           }
 
-  -- ---- the end
-  ends : (t : ℕ) → linesIn (length s) s at (length l - n) ≡ stop t
-      → let q = linesIn (length s) s start (length l) in (d ≡ sets l 0 (q .text)) × ((n ≡ length (q .text)) × ((t ≡ q .next) × (n ≤ length l)))
+  -- ---- the end: d and n are the text of all lines and its length, and the next place is t
+  abbrev Lines : ℕ → Type 0
+  Lines t = let q = linesIn (length s) s start (length l) in (d ≡ sets l 0 (q .text)) × ((n ≡ length (q .text)) × ((t ≡ q .next) × (n ≤ length l)))
+
+  ends : (t : ℕ) → linesIn (length s) s at (length l - n) ≡ stop t → Lines t
   ends t e =
       let whole : linesIn (length s) s start (length l) ≡ record { next = t; text = p .done } = p .rest ∙ rw (e, append-nil) in
       rw whole (p .laid .bytes, (omega (arith, p .laid .place), (refl, p .within)))
 
-  pub ends-none : (a : NextRecord) → a ≡ nextRecord s at → a .length ≡ 0 → lineMost ≤ length d - n
-      → let q = linesIn (length s) s start (length l) in (d ≡ sets l 0 (q .text)) × ((n ≡ length (q .text)) × ((length s ≡ q .next) × (n ≤ length l)))
+  pub ends-none : (a : NextRecord) → a ≡ nextRecord s at → a .length ≡ 0 → lineMost ≤ length d - n → Lines (length s)
   ends-none a e z h = ends (length s) (lines-none (length s) s at (length l - n) (omega (arith, filled-length)) (rw e at z))
 
-  pub ends-full : length d - n < lineMost
-      → let q = linesIn (length s) s start (length l) in (d ≡ sets l 0 (q .text)) × ((n ≡ length (q .text)) × ((at ≡ q .next) × (n ≤ length l)))
+  pub ends-full : length d - n < lineMost → Lines at
   ends-full h = ends at (lines-full (length s) s at (length l - n) (omega (arith, filled-length)))

@@ -43,7 +43,8 @@ zero-end : (s : List ℕ) (at room : ℕ) → lineMost ≤ room → linesIn zero
 unfolding linesIn
 zero-end s at room h = simp (le-ltb room lineMost h)
 
-pub lines-none : (most : ℕ) (s : List ℕ) (at room : ℕ) → lineMost ≤ room → nextRecord s at .length ≡ 0 → linesIn most s at room ≡ stop (length s)
+pub lines-none : (most : ℕ) (s : List ℕ) (at room : ℕ) → lineMost ≤ room → nextRecord s at .length ≡ 0
+    → linesIn most s at room ≡ stop (length s)
 unfolding linesIn
 lines-none zero s at room h z = zero-end s at room h
 lines-none (suc most) s at room h z = simp (le-ltb room lineMost h, eq-eqb (nextRecord s at .length) 0 z)
@@ -88,7 +89,8 @@ lines-more s at room h n =
     same-lines (length s) (suc (length s)) s at room (omega arith) (omega arith) ∙ line-and-more (length s) s at room h n
 
 -- ---- the place from which to go on
-pub lines-within : (most : ℕ) (s : List ℕ) (at room : ℕ) → at ≤ length s → (at ≤ linesIn most s at room .next) × (linesIn most s at room .next ≤ length s)
+pub lines-within : (most : ℕ) (s : List ℕ) (at room : ℕ) → at ≤ length s
+    → (at ≤ linesIn most s at room .next) × (linesIn most s at room .next ≤ length s)
 lines-within zero s at room h =
     by-test (ltb room lineMost) (λ t. rw (lines-full zero s at room (ltb-true room lineMost t)) (omega arith, h))
     (λ t. rw (zero-end s at room (ltb-false room lineMost t)) (h, omega arith))

@@ -48,7 +48,8 @@ fn record_lines(data: &[u8], start: usize, out: &mut [u8]) -> Lines
     requires { ⌜ length (now «data») ≤ mostCapture ⌝ }
     ensures bytes { λ _. ⌜ now (out .exit)
         ≡ sets (now (out .entry)) 0 (linesIn (length (now («data» .entry))) (now («data» .entry)) start (length (now (out .entry))) .text) ⌝ }
-    ensures count { λ r. ⌜ r .bytes ≡ length (linesIn (length (now («data» .entry))) (now («data» .entry)) start (length (now (out .entry))) .text) ⌝ }
+    ensures count { λ r. ⌜ r .bytes
+        ≡ length (linesIn (length (now («data» .entry))) (now («data» .entry)) start (length (now (out .entry))) .text) ⌝ }
     ensures next { λ r. ⌜ r .next ≡ linesIn (length (now («data» .entry))) (now («data» .entry)) start (length (now (out .entry))) .next ⌝ }
     ensures within { λ r. ⌜ r .bytes ≤ length (now (out .entry)) ⌝ }
 {

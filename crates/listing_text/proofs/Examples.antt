@@ -11,7 +11,7 @@ use Rattle.show.specs.Text.{places, decimal}
 use Rattle.listing_text.specs.Labels.{tocLabel, countLabel, timeLabel, payloadLabel, packetLabel, compactLabel, frameLabel, atLabel, lengthLabel}
 use Rattle.listing_text.specs.Listing.{line, frameLine, frameLines, times, sizes, packetText, listed, listing}
 
--- a line of it to a line
+-- a line of it to a line, and to two where it says where a frame stands
 pub example : List ℕ
 example =
     116 ∷ 111 ∷ 99 ∷ 32 ∷ 51 ∷ 10 ∷
@@ -20,8 +20,10 @@ example =
     112 ∷ 97 ∷ 121 ∷ 108 ∷ 111 ∷ 97 ∷ 100 ∷ 32 ∷ 50 ∷ 10 ∷
     112 ∷ 97 ∷ 99 ∷ 107 ∷ 101 ∷ 116 ∷ 32 ∷ 52 ∷ 10 ∷
     99 ∷ 111 ∷ 109 ∷ 112 ∷ 97 ∷ 99 ∷ 116 ∷ 32 ∷ 51 ∷ 10 ∷
-    102 ∷ 114 ∷ 97 ∷ 109 ∷ 101 ∷ 32 ∷ 48 ∷ 32 ∷ 97 ∷ 116 ∷ 32 ∷ 50 ∷ 32 ∷ 108 ∷ 101 ∷ 110 ∷ 103 ∷ 116 ∷ 104 ∷ 32 ∷ 49 ∷ 10 ∷
-    102 ∷ 114 ∷ 97 ∷ 109 ∷ 101 ∷ 32 ∷ 49 ∷ 32 ∷ 97 ∷ 116 ∷ 32 ∷ 51 ∷ 32 ∷ 108 ∷ 101 ∷ 110 ∷ 103 ∷ 116 ∷ 104 ∷ 32 ∷ 49 ∷ 10 ∷ []
+    102 ∷ 114 ∷ 97 ∷ 109 ∷ 101 ∷ 32 ∷ 48 ∷ 32 ∷ 97 ∷ 116 ∷ 32 ∷ 50 ∷
+    32 ∷ 108 ∷ 101 ∷ 110 ∷ 103 ∷ 116 ∷ 104 ∷ 32 ∷ 49 ∷ 10 ∷
+    102 ∷ 114 ∷ 97 ∷ 109 ∷ 101 ∷ 32 ∷ 49 ∷ 32 ∷ 97 ∷ 116 ∷ 32 ∷ 51 ∷
+    32 ∷ 108 ∷ 101 ∷ 110 ∷ 103 ∷ 116 ∷ 104 ∷ 32 ∷ 49 ∷ 10 ∷ []
 
 pub example-listing : listing (3 ∷ 2 ∷ 170 ∷ 187 ∷ []) ≡ example
 unfolding example listing listed packetText times sizes line frameLines frameLine decimal places read compact header duration samples
@@ -37,8 +39,10 @@ silence =
     112 ∷ 97 ∷ 121 ∷ 108 ∷ 111 ∷ 97 ∷ 100 ∷ 32 ∷ 50 ∷ 10 ∷
     112 ∷ 97 ∷ 99 ∷ 107 ∷ 101 ∷ 116 ∷ 32 ∷ 50 ∷ 10 ∷
     99 ∷ 111 ∷ 109 ∷ 112 ∷ 97 ∷ 99 ∷ 116 ∷ 32 ∷ 49 ∷ 10 ∷
-    102 ∷ 114 ∷ 97 ∷ 109 ∷ 101 ∷ 32 ∷ 48 ∷ 32 ∷ 97 ∷ 116 ∷ 32 ∷ 50 ∷ 32 ∷ 108 ∷ 101 ∷ 110 ∷ 103 ∷ 116 ∷ 104 ∷ 32 ∷ 48 ∷ 10 ∷
-    102 ∷ 114 ∷ 97 ∷ 109 ∷ 101 ∷ 32 ∷ 49 ∷ 32 ∷ 97 ∷ 116 ∷ 32 ∷ 50 ∷ 32 ∷ 108 ∷ 101 ∷ 110 ∷ 103 ∷ 116 ∷ 104 ∷ 32 ∷ 48 ∷ 10 ∷ []
+    102 ∷ 114 ∷ 97 ∷ 109 ∷ 101 ∷ 32 ∷ 48 ∷ 32 ∷ 97 ∷ 116 ∷ 32 ∷ 50 ∷
+    32 ∷ 108 ∷ 101 ∷ 110 ∷ 103 ∷ 116 ∷ 104 ∷ 32 ∷ 48 ∷ 10 ∷
+    102 ∷ 114 ∷ 97 ∷ 109 ∷ 101 ∷ 32 ∷ 49 ∷ 32 ∷ 97 ∷ 116 ∷ 32 ∷ 50 ∷
+    32 ∷ 108 ∷ 101 ∷ 110 ∷ 103 ∷ 116 ∷ 104 ∷ 32 ∷ 48 ∷ 10 ∷ []
 
 pub silence-takes-time : listing (3 ∷ 2 ∷ []) ≡ silence
 unfolding silence listing listed packetText times sizes line frameLines frameLine decimal places read compact header duration samples

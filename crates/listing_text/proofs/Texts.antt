@@ -30,7 +30,8 @@ pub times-parts : (l : List ℕ) (toc : ℕ) (ns : List ℕ) {t : ℕ} → t ≡
 unfolding times
 times-parts l toc ns e h = record { whole = rw e; room = front-room l (times toc ns) h }
 
-pub packet-parts : (l : List ℕ) (toc : ℕ) (ns : List ℕ) (first taken : ℕ) {small n : ℕ} → n ≡ small → length (packetText toc ns first taken small) ≤ length l
+pub packet-parts : (l : List ℕ) (toc : ℕ) (ns : List ℕ) (first taken : ℕ) {small n : ℕ} → n ≡ small
+    → length (packetText toc ns first taken small) ≤ length l
     → Three l 0 (packetText toc ns first taken small) (times toc ns) (sizes first taken n) (frameLines 0 first ns)
 unfolding packetText
 packet-parts l toc ns first taken {small} e h =

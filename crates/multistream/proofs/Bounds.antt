@@ -35,7 +35,8 @@ module _ (sd : Bool) (p : List ℕ) (toc : ℕ) (ns : List ℕ) (first taken : �
   pub compact-within : length (compact sd (upperSix toc) (cut ns (drop first p))) ≤ taken
   compact-within = rebuilds sd p toc ns first taken bytes r .1
 
-by-reading : (sd : Bool) (p : List ℕ) → Bytes p → (x : Reading) → read sd p ≡ x → (length (compactBy sd p x) ≤ takenBy x) × (takenBy x ≤ length p)
+by-reading : (sd : Bool) (p : List ℕ) → Bytes p → (x : Reading) → read sd p ≡ x
+    → (length (compactBy sd p x) ≤ takenBy x) × (takenBy x ≤ length p)
 by-reading sd p bytes (refused rule) r = (omega arith, omega arith)
 by-reading sd p bytes (accepted toc ns first taken) r =
     (compact-within sd p toc ns first taken bytes r, taken-within sd p toc ns first taken bytes r)
@@ -59,7 +60,8 @@ pass-within zero p at bytes e =
     omega arith
 pass-within (suc k) p at bytes e = go (λ n. pass-within k (drop n p)) (read true p) refl
   where
-    go : ((n b : ℕ) → Bytes (drop n p) → passStreams k (drop n p) ≡ Past b → b ≤ length (drop n p)) → (x : Reading) → read true p ≡ x → at ≤ length p
+    go : ((n b : ℕ) → Bytes (drop n p) → passStreams k (drop n p) ≡ Past b → b ≤ length (drop n p)) → (x : Reading) → read true p ≡ x
+        → at ≤ length p
     go next (refused rule) q = never (let y = rw q at e in cc)
     go next (accepted toc ns first taken) q =
         further-within taken (length p) at (passStreams k (drop taken p))
@@ -70,7 +72,8 @@ ahead-within : (q : List ℕ) (x : Repacked) (n m : ℕ) → length q ≤ n → 
 ahead-within q (unread e) n m h l = omega arith
 ahead-within q (repacked v) n m h l = omega (arith, length-append q v)
 
-reading-within : (sd : Bool) (next : List ℕ → Repacked) (p : List ℕ) → Bytes p → ((n : ℕ) → length (packedOf (next (drop n p))) ≤ length (drop n p))
+reading-within : (sd : Bool) (next : List ℕ → Repacked) (p : List ℕ) → Bytes p
+    → ((n : ℕ) → length (packedOf (next (drop n p))) ≤ length (drop n p))
     → length (packedOf (repackReading sd next p (read sd p))) ≤ length p
 reading-within sd next p bytes h = go (read sd p) refl
   where

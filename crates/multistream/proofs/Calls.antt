@@ -112,8 +112,9 @@ module _ (s : List ℕ) (len new at : ℕ) (fits : len ≤ length s) where
 
     -- as the code lends the last stream
     pub last-behind : {n : ℤ} {v : List ℕ}
-        → let d = take (length s - at) (drop at s) in let x = leaves d (padPacket (take (len - at) d) (new - at)) in n ≡ x .number → v ≡ x .bytes
-        → (n ≡ leaves s (padLast (take len s) new (Past at)) .number) × (putMid at (length s - at) s v ≡ leaves s (padLast (take len s) new (Past at)) .bytes)
+        → let d = take (length s - at) (drop at s) in let x = leaves d (padPacket (take (len - at) d) (new - at)) in
+        let y = leaves s (padLast (take len s) new (Past at)) in
+        n ≡ x .number → v ≡ x .bytes → (n ≡ y .number) × (putMid at (length s - at) s v ≡ y .bytes)
     last-behind {v = v} a b =
         let x = padPacket (take (len - at) (drop at s)) (new - at) in
         let q = behind-leaves s at (omega arith) x in

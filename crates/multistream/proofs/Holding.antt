@@ -119,7 +119,8 @@ repack-compact (suc k) p xs e =
     repacks true (readStreams k) p xs h (repackStreams k) (compactStreams k (h .others)) (repack-compact k (drop (h .taken) p) (h .others) (h .rest))
     ∙ ap (λ ys. repacked (compactStreams (suc k) ys)) (h .all)
 
-pub compact-holds : (k : ℕ) (p : List ℕ) → Bytes p → (xs : List Stream) → readStreams k p ≡ streams xs → readStreams k (compactStreams k xs) ≡ streams xs
+pub compact-holds : (k : ℕ) (p : List ℕ) → Bytes p → (xs : List Stream) → readStreams k p ≡ streams xs
+    → readStreams k (compactStreams k xs) ≡ streams xs
 compact-holds zero p bytes xs e =
     let next : List ℕ → Streams = λ t. streams [] in
     let h = held false next p xs e in

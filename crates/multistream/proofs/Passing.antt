@@ -135,14 +135,15 @@ all-stuck (suc k) s e h = go (λ t. all-stuck k t e) (read true s) h
         next (drop taken s) (further-stuck taken (passStreams k (drop taken s)) e h)
         ∙ sym (ahead-verdict (compact true (upperSix toc) (cut ns (drop first s))) (repackStreams k (drop taken s)))
 
-pub all-last : (k : ℕ) (s : List ℕ) (at : ℕ) → passStreams k s ≡ Past at → verdictBy (passBy (read false (drop at s))) ≡ verdictOf (repackStreams k s)
+pub all-last : (k : ℕ) (s : List ℕ) (at : ℕ) → passStreams k s ≡ Past at
+    → verdictBy (passBy (read false (drop at s))) ≡ verdictOf (repackStreams k s)
 all-last zero s at h =
     let none : 0 ≡ at = cc in
     rw (← none) (last-verdict s (read false s))
 all-last (suc k) s at h = go (λ t. all-last k t) (read true s) h
   where
-    go : ((t : List ℕ) (at : ℕ) → passStreams k t ≡ Past at → verdictBy (passBy (read false (drop at t))) ≡ verdictOf (repackStreams k t)) → (x : Reading)
-        → thenPass (passStreams k) s (passBy x) ≡ Past at
+    go : ((t : List ℕ) (at : ℕ) → passStreams k t ≡ Past at → verdictBy (passBy (read false (drop at t))) ≡ verdictOf (repackStreams k t))
+        → (x : Reading) → thenPass (passStreams k) s (passBy x) ≡ Past at
         → verdictBy (passBy (read false (drop at s))) ≡ verdictOf (repackReading true (repackStreams k) s x)
     go next (refused rule) h = never (cc)
     go next (accepted toc ns first taken) h =

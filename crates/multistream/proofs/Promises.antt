@@ -70,12 +70,14 @@ pub unpad-never-lacks-room : (s : List ℕ) (len nb : ℤ) → streamsUnpadded s
 unpad-never-lacks-room = unpad-roomy
 
 -- A refusal leaves every byte.
-pub refused-pad-changes-nothing : (s : List ℕ) (len new nb : ℤ) (n : ℕ) → streamsPadded s len new nb .number ≡ negsuc n → streamsPadded s len new nb .bytes ≡ s
+pub refused-pad-changes-nothing : (s : List ℕ) (len new nb : ℤ) (n : ℕ) → streamsPadded s len new nb .number ≡ negsuc n
+    → streamsPadded s len new nb .bytes ≡ s
 unfolding streamsPadded
 refused-pad-changes-nothing s len new nb n e =
     refusal-keeps s (bounded (λ k. byLengths (λ n m. padStreams k (take n s) m) (lengthsOf s len new)) (streamsOf nb)) n e
 
-pub refused-unpad-changes-nothing : (s : List ℕ) (len nb : ℤ) (n : ℕ) → streamsUnpadded s len nb .number ≡ negsuc n → streamsUnpadded s len nb .bytes ≡ s
+pub refused-unpad-changes-nothing : (s : List ℕ) (len nb : ℤ) (n : ℕ) → streamsUnpadded s len nb .number ≡ negsuc n
+    → streamsUnpadded s len nb .bytes ≡ s
 unfolding streamsUnpadded
 refused-unpad-changes-nothing s len nb n e =
     refusal-keeps s (bounded (λ k. bounded (λ n. unpadStreams k (take n s)) (lengthOf s len)) (streamsOf nb)) n e

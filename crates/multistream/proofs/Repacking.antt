@@ -44,7 +44,8 @@ use Rattle.multistream.proofs.Passing.{ahead-verdict}
 use Rattle.multistream.proofs.Lent.{sets-lent}
 
 -- ---- one stream
-accepted-verdict : (sd : Bool) (p : List ℕ) (r : Packet) → r ≡ parsed sd p → length p ≤ 65535 → isAccepted (read sd p) ≡ true → r .verdict ≡ Accepted
+accepted-verdict : (sd : Bool) (p : List ℕ) (r : Packet) → r ≡ parsed sd p → length p ≤ 65535 → isAccepted (read sd p) ≡ true
+    → r .verdict ≡ Accepted
 unfolding parsed
 accepted-verdict sd p r e h ok = go (read sd p) (rw (le-ltb 65535 (length p) h) at e) ok
   where

@@ -62,8 +62,10 @@ fn pass_streams(data: &[u8], k: usize) -> Passed
 // Pads the last stream, which stands at a place.
 fn pad_last(data: &mut [u8], len: usize, new_len: usize, at: usize) -> Answer
     requires { ⌜ (at ≤ len) × (len < «new_len») × («new_len» ≤ length (now «data»)) × («new_len» ≤ 65535) ⌝ }
-    ensures number { λ r. ⌜ numberOf r ≡ leaves (now («data» .entry)) (padLast (take len (now («data» .entry))) «new_len» (Passed.Past at)) .number ⌝ }
-    ensures bytes { λ _. ⌜ now («data» .exit) ≡ leaves (now («data» .entry)) (padLast (take len (now («data» .entry))) «new_len» (Passed.Past at)) .bytes ⌝ }
+    ensures number { λ r. ⌜ numberOf r
+        ≡ leaves (now («data» .entry)) (padLast (take len (now («data» .entry))) «new_len» (Passed.Past at)) .number ⌝ }
+    ensures bytes { λ _. ⌜ now («data» .exit)
+        ≡ leaves (now («data» .entry)) (padLast (take len (now («data» .entry))) «new_len» (Passed.Past at)) .bytes ⌝ }
 {
     if at == len {
         return Answer::Refused(Refusal::BadArg);
@@ -75,7 +77,8 @@ fn pad_last(data: &mut [u8], len: usize, new_len: usize, at: usize) -> Answer
 fn pad_streams(data: &mut [u8], len: usize, new_len: usize, streams: usize) -> Answer
     requires { ⌜ (len < «new_len») × («new_len» ≤ length (now «data»)) × («new_len» ≤ 65535) × (1 ≤ streams) ⌝ }
     ensures number { λ r. ⌜ numberOf r ≡ leaves (now («data» .entry)) (padStreams streams (take len (now («data» .entry))) «new_len») .number ⌝ }
-    ensures bytes { λ _. ⌜ now («data» .exit) ≡ leaves (now («data» .entry)) (padStreams streams (take len (now («data» .entry))) «new_len») .bytes ⌝ }
+    ensures bytes { λ _. ⌜ now («data» .exit)
+        ≡ leaves (now («data» .entry)) (padStreams streams (take len (now («data» .entry))) «new_len») .bytes ⌝ }
 {
     let p = pass_streams(&data[..len], streams - 1);
     match p {
@@ -149,7 +152,8 @@ fn repack_stream(
 ) -> Places
     requires places { ⌜ (to ≤ from) × (from ≤ len) × (len ≤ length (now «data»)) × (len ≤ 65535) ⌝ }
     requires reads { ⌜ isAccepted (read «self_delimited» (stream (now «data») from len)) ≡ true ⌝ }
-    ensures bytes { λ _. ⌜ now («data» .exit) ≡ sets (now («data» .entry)) to (compactOf «self_delimited» (stream (now («data» .entry)) from len)) ⌝ }
+    ensures bytes { λ _. ⌜ now («data» .exit)
+        ≡ sets (now («data» .entry)) to (compactOf «self_delimited» (stream (now («data» .entry)) from len)) ⌝ }
     ensures next { λ r. ⌜ r ≡ nextPlaces to from «self_delimited» (stream (now («data» .entry)) from len) ⌝ }
 {
     let mut lengths = [0u16; 48];

@@ -213,7 +213,8 @@ unfolding read
 by-code sd [] h = absurd (omega arith)
 by-code sd (toc ∷ s) h = refl
 
-third : (sd : Bool) (c m toc : ℕ) (s : List ℕ) → (c ≡ 0 → ⊥) → (c ≡ 1 → ⊥) → (c ≡ 2 → ⊥) → readCode sd c m toc s ≡ read3 sd m toc s
+third : (sd : Bool) (c m toc : ℕ) (s : List ℕ) → (c ≡ 0 → ⊥) → (c ≡ 1 → ⊥) → (c ≡ 2 → ⊥)
+    → readCode sd c m toc s ≡ read3 sd m toc s
 third sd zero m toc s n₀ n₁ n₂ = absurd (n₀ refl)
 third sd (suc zero) m toc s n₀ n₁ n₂ = absurd (n₁ refl)
 third sd (suc (suc zero)) m toc s n₀ n₁ n₂ = absurd (n₂ refl)

@@ -26,7 +26,8 @@ none-answered h e l q = rw q
 abbrev pub packetWith : PacketHead → List ℕ → Packet
 packetWith h l = record { verdict = h .verdict; toc = h .toc; count = h .count; lengths = l; first = h .first; taken = h .taken }
 
-pub lent-accepted : (sd : Bool) (p : List ℕ) (h : PacketHead) (l : List ℕ) → answerOf h l ≡ parsed sd p → h .verdict ≡ Accepted → packetWith h l ≡ parsed sd p
+pub lent-accepted : (sd : Bool) (p : List ℕ) (h : PacketHead) (l : List ℕ) → answerOf h l ≡ parsed sd p → h .verdict ≡ Accepted
+    → packetWith h l ≡ parsed sd p
 lent-accepted sd p h l e v =
     let k : keptLengths (h .verdict) l ≡ l = rw v in
     ap (λ (ns : List ℕ). packetWith h ns) (sym k) ∙ e

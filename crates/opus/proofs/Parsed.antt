@@ -46,7 +46,8 @@ module _ (sd : Bool) (p : List ℕ) where
         go h f (refused rule) q = never (let x = rw q at f in cc)
         go h f (accepted toc ns first taken) q = rw (rw q at f) (read-of toc ns first taken h q)
 
-    pub parsed-refused : (c : Refusal) → r .verdict ≡ Refused c → length p ≤ 65535 → (rule : Rule) × (c ≡ ruleRefusal rule) × (read sd p ≡ refused rule)
+    pub parsed-refused : (c : Refusal) → r .verdict ≡ Refused c → length p ≤ 65535
+        → (rule : Rule) × (c ≡ ruleRefusal rule) × (read sd p ≡ refused rule)
     unfolding parsed
     parsed-refused c v h = go (rw (le-ltb 65535 (length p) h) at e) (read sd p) refl
       where

@@ -69,6 +69,7 @@ pub too-long-number : (sd : Bool) (p : List ℕ) → 65535 < length p → packet
 unfolding parsed
 too-long-number sd p h = rw (lt-ltb 65535 (length p) h)
 
-pub unreadable-number : (sd : Bool) (p : List ℕ) (rule : Rule) → length p ≤ 65535 → read sd p ≡ refused rule → packetNumber (parsed sd p) ≡ negsuc 3
+pub unreadable-number : (sd : Bool) (p : List ℕ) (rule : Rule) → length p ≤ 65535 → read sd p ≡ refused rule
+    → packetNumber (parsed sd p) ≡ negsuc 3
 unfolding parsed
 unreadable-number sd p rule h r = rw (le-ltb 65535 (length p) h, r) (rule-number rule)

@@ -122,8 +122,8 @@ fn read_body(data: &[u8], count: usize, self_delimited: bool, lengths: &mut [u16
     requires { ⌜ (2 ≤ length (now «data»)) × (length (now «data») ≤ 65535) × (1 ≤ count) × (count ≤ 48) ⌝ }
     requires zeros { ⌜ now lengths ≡ padded48 [] ⌝ }
     ensures { λ r. ⌜ answerOf r (now (lengths .exit))
-        ≡ packetOf (behindPadding «self_delimited» (length (now («data» .entry))) (getD (now («data» .entry)) 0 0) (getD (now («data» .entry)) 1 0 / 128 % 2)
-        count (readPadding (getD (now («data» .entry)) 1 0 / 64 % 2) (drop 2 (now («data» .entry))))) ⌝ }
+        ≡ packetOf (behindPadding «self_delimited» (length (now («data» .entry))) (getD (now («data» .entry)) 0 0)
+        (getD (now («data» .entry)) 1 0 / 128 % 2) count (readPadding (getD (now («data» .entry)) 1 0 / 64 % 2) (drop 2 (now («data» .entry))))) ⌝ }
 {
     let count_byte = data[1];
     let tail = &data[2..];

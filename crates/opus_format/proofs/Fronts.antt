@@ -108,7 +108,8 @@ equal-read true r count n t c h k =
     let fits : count * n ≤ length t = omega (arith, k .enough, total-same count n) in
     rw (field-read t n h, le-ltb (length t) (count * n) fits)
 
-pub equal-was : (sd : Bool) (r : Rule) (count : ℕ) (s ms t : List ℕ) → Bytes s → equal sd r count s ≡ front ms t → FrontWas sd (replicate count) s ms t
+pub equal-was : (sd : Bool) (r : Rule) (count : ℕ) (s ms t : List ℕ) → Bytes s → equal sd r count s ≡ front ms t
+    → FrontWas sd (replicate count) s ms t
 equal-was false r count s ms t bytes e =
     let n = length s / count in
     by-test (eqb (length s % count) 0)
@@ -139,7 +140,8 @@ pub record BehindWas (sd : Bool) (k : ℕ) (s ms t : List ℕ) : Type 0 where
   pub small : longest ms ≤ mostBytes
   pub holds : Holds sd (total ms) t
 
-pub behind-was : (sd : Bool) (r : Rule) (k : ℕ) (s ms t : List ℕ) → Bytes s → behindFields sd r (readFields k s) ≡ front ms t → BehindWas sd k s ms t
+pub behind-was : (sd : Bool) (r : Rule) (k : ℕ) (s ms t : List ℕ) → Bytes s → behindFields sd r (readFields k s) ≡ front ms t
+    → BehindWas sd k s ms t
 behind-was sd r k s ms t bytes e = go (readFields k s) refl e
   where
     go : (f : Fields) → readFields k s ≡ f → behindFields sd r f ≡ front ms t → BehindWas sd k s ms t

@@ -61,7 +61,8 @@ cut-front ns s t h =
     cut-left ns f t l ∙ (sym (cut-left ns f (drop (total ns) s) l) ∙ ap (cut ns) (take-append-drop (total ns) s))
 
 -- frames within the first len bytes
-pub cut-take : (ns : List ℕ) (first len : ℕ) (s : List ℕ) → first + total ns ≤ len → len ≤ length s → cut ns (drop first (take len s)) ≡ cut ns (drop first s)
+pub cut-take : (ns : List ℕ) (first len : ℕ) (s : List ℕ) → first + total ns ≤ len → len ≤ length s
+    → cut ns (drop first (take len s)) ≡ cut ns (drop first s)
 cut-take ns first len s h k =
     let p = take len s in
     let long : length p ≡ len = length-take-le len s k in

@@ -68,7 +68,8 @@ pub record PaddingWas (flag : ℕ) (s : List ℕ) (pad : ℕ) (rest : List ℕ) 
   pub padding : Padding flag chain pad
   pub spelled : s ≡ chain ++ rest
 
-pub padding-was : (flag : ℕ) → flag < 2 → (s : List ℕ) (pad : ℕ) (rest : List ℕ) → Bytes s → readPadding flag s ≡ field pad rest → PaddingWas flag s pad rest
+pub padding-was : (flag : ℕ) → flag < 2 → (s : List ℕ) (pad : ℕ) (rest : List ℕ) → Bytes s → readPadding flag s ≡ field pad rest
+    → PaddingWas flag s pad rest
 padding-was zero h s pad rest bytes r =
     let none : pad ≡ 0 = cc in
     record { chain = []; padding = rw none unpadded; spelled = cc }

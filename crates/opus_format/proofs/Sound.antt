@@ -67,7 +67,8 @@ toc-whole toc c e = omega arith
 Plain : Bool → ℕ → List ℕ → List ℕ → Type 0
 Plain sd toc b ns = Layout sd (upperSix toc) (toc ∷ b) ns 0
 
-as-plain : {sd : Bool} (toc c : ℕ) {b ns : List ℕ} → toc % 4 ≡ c → Layout sd (upperSix toc) (tocByte (upperSix toc) c ∷ b) ns 0 → Plain sd toc b ns
+as-plain : {sd : Bool} (toc c : ℕ) {b ns : List ℕ} → toc % 4 ≡ c → Layout sd (upperSix toc) (tocByte (upperSix toc) c ∷ b) ns 0
+    → Plain sd toc b ns
 unfolding Plain
 as-plain toc c e l = rw (toc-whole toc c e) at l
 
@@ -85,8 +86,8 @@ module _ (sd : Bool) (toc : ℕ) (s ns t : List ℕ) (bytes : Bytes s) where
       let w = behind-was sd R4 1 s ns t bytes e in
       go (w .others) (w .last) (w .count) (w .same) (w .spelled) (w .small) (w .holds)
     where
-      go : (ms : List ℕ) (n : ℕ) → length ms ≡ 1 → ns ≡ ms ++ (n ∷ []) → s ≡ lengthFields ms ++ ownLength sd n ++ t → longest ns ≤ mostBytes
-          → Holds sd (total ns) t → Body sd (Plain sd toc) s ns t
+      go : (ms : List ℕ) (n : ℕ) → length ms ≡ 1 → ns ≡ ms ++ (n ∷ []) → s ≡ lengthFields ms ++ ownLength sd n ++ t
+          → longest ns ≤ mostBytes → Holds sd (total ns) t → Body sd (Plain sd toc) s ns t
       go [] n one same spelled small holds = absurd (omega arith)
       go (m ∷ []) n one same spelled small holds =
           record {
@@ -100,7 +101,8 @@ module _ (sd : Bool) (toc : ℕ) (s ns t : List ℕ) (bytes : Bytes s) where
 
 -- behind the padding lengths a in code 3, with v for unequal lengths
 module _ (sd : Bool) (six p count pad : ℕ) (a s ns t : List ℕ) (l : Lasts six count) (d : Padding p a pad) (bytes : Bytes s) where
-  body3 : (v : ℕ) → v < 2 → frames3 sd v count s ≡ front ns t → Body sd (λ b ns. Layout sd six (tocByte six 3 ∷ countByte v p count ∷ (a ++ b)) ns pad) s ns t
+  body3 : (v : ℕ) → v < 2 → frames3 sd v count s ≡ front ns t
+      → Body sd (λ b ns. Layout sd six (tocByte six 3 ∷ countByte v p count ∷ (a ++ b)) ns pad) s ns t
   body3 zero h e =
       front-body (λ b ns. Layout sd six (tocByte six 3 ∷ countByte 0 p count ∷ (a ++ b)) ns pad) (λ n. code3equal count n l d)
       (λ n. longest-same count n (l .some)) (equal-was sd R6 count s ns t bytes e)
@@ -190,14 +192,16 @@ module _ (sd : Bool) (toc toc′ : ℕ) (ns : List ℕ) (first taken : ℕ) wher
       (body3 sd (upperSix toc) (c / 64 % 2) (c % 64) (length q) a s ns t l (rw long d) (bytes-take k u bytes) (c / 128 % 2) (omega arith) f))
       (rw (split, long) e))
 
-  read3-laid : (s : List ℕ) → Bytes s → toc % 4 ≡ 3 → read3 sd (suc (length s)) toc s ≡ accepted toc′ ns first taken → Laid sd (toc ∷ s) toc′ ns first taken
+  read3-laid : (s : List ℕ) → Bytes s → toc % 4 ≡ 3 → read3 sd (suc (length s)) toc s ≡ accepted toc′ ns first taken
+      → Laid sd (toc ∷ s) toc′ ns first taken
   read3-laid [] bytes three e = never (cc)
   read3-laid (c ∷ s) bytes three e =
       by-test (lasts (upperSix toc) (c % 64))
       (λ d. go (passed-lasts (upperSix toc) (c % 64) d) (readPadding (c / 64 % 2) s) refl (rw d at e)) (λ d. never (cc))
     where
       go : Lasts (upperSix toc) (c % 64) → (f : Field) → readPadding (c / 64 % 2) s ≡ f
-          → behindPadding sd (suc (suc (length s))) toc (c / 128 % 2) (c % 64) f ≡ accepted toc′ ns first taken → Laid sd (toc ∷ c ∷ s) toc′ ns first taken
+          → behindPadding sd (suc (suc (length s))) toc (c / 128 % 2) (c % 64) f ≡ accepted toc′ ns first taken
+          → Laid sd (toc ∷ c ∷ s) toc′ ns first taken
       go l noField d e = never (cc)
       go l (field pad u) d e =
           by-test (ltb (length u) pad) (λ f. never (cc))
@@ -279,7 +283,8 @@ pub read-taken : (sd : Bool) (p : List ℕ) (toc : ℕ) (ns : List ℕ) (first t
 read-taken sd p toc ns first taken bytes r = laid-taken (read-laid sd p toc ns first taken bytes r)
 
 -- ordinary reading takes the whole packet
-pub ordinary-whole : (p : List ℕ) (toc : ℕ) (ns : List ℕ) (first taken : ℕ) → Bytes p → read false p ≡ accepted toc ns first taken → taken ≡ length p
+pub ordinary-whole : (p : List ℕ) (toc : ℕ) (ns : List ℕ) (first taken : ℕ) → Bytes p → read false p ≡ accepted toc ns first taken
+    → taken ≡ length p
 ordinary-whole p toc ns first taken bytes r =
     let w = read-spelled false p toc ns first taken bytes r in
     omega (arith, w .within, length-drop taken p, ap length (w .behind))

@@ -43,7 +43,8 @@ module _ {ns : List ℕ} {t f : ℕ} {alike : Bool} {i : ℕ} (k : Counted ns t 
     pub counted-small : longest ns ≤ mostBytes → t + n ≤ 1275 * (i + 1)
     counted-small s = omega (arith, k .small, longest-at ns i h, g)
 
-    pub counted-more : longest ns ≤ mostBytes → {b : ℕ} → b ≡ length (lengthField n) → {alike′ : Bool} → alike′ ≡ allAre (getD ns 0 0) (take (i + 1) ns)
+    pub counted-more : longest ns ≤ mostBytes → {b : ℕ} → b ≡ length (lengthField n)
+        → {alike′ : Bool} → alike′ ≡ allAre (getD ns 0 0) (take (i + 1) ns)
         → Counted ns (t + n) (f + b) alike′ (i + 1)
     counted-more short eb s =
         record {

@@ -37,7 +37,8 @@ full-over sd six frames =
     (λ e. rw e (simp length-append (omega arith)))
     (λ e. rw e (simp length-append (omega arith)))
 
-pub filling-length : (sd : Bool) (six : ℕ) (frames : List (List ℕ)) (m : ℕ) → length (compact sd six frames) ≤ m → length (filling sd six frames m) ≡ m
+pub filling-length : (sd : Bool) (six : ℕ) (frames : List (List ℕ)) (m : ℕ) → length (compact sd six frames) ≤ m
+    → length (filling sd six frames m) ≡ m
 unfolding filling
 filling-length sd six frames m h =
     let rest = m - length (full sd six frames 0) in

@@ -47,7 +47,8 @@ compact-missing count = by-test (ltb count 3) (λ e. rw e) (λ e. rw e)
 pub compact-front : (count : ℕ) → frontBytes (compactForm count) ≤ 2
 compact-front count = omega (arith, front-most (compactForm count), compact-missing count)
 
-pub header-bytes : (sd : Bool) (six : ℕ) (ns : List ℕ) (m : Sums) (form : Form) → m ≡ sumsOf ns → headerBytes m form sd ≡ length (headerOf sd six ns form)
+pub header-bytes : (sd : Bool) (six : ℕ) (ns : List ℕ) (m : Sums) (form : Form) → m ≡ sumsOf ns
+    → headerBytes m form sd ≡ length (headerOf sd six ns form)
 unfolding sumsOf
 header-bytes sd six ns m form e =
     rw (e, length-header sd (frontOf six (length ns) (same ns) form) ns, front-bytes six (length ns) (same ns) form)
@@ -56,7 +57,8 @@ header-bytes sd six ns m form e =
 pub compact-header : (sd : Bool) (six : ℕ) (ns : List ℕ) → compactHeader sd six ns ≡ headerOf sd six ns (compactForm (length ns))
 compact-header sd six ns = by-test (ltb (length ns) 3) (λ e. rw e) (λ e. rw e)
 
-pub compact-bytes : (sd : Bool) (six : ℕ) (ns : List ℕ) (m : Sums) → m ≡ sumsOf ns → compactBytes (length ns) m sd ≡ length (compactHeader sd six ns) + total ns
+pub compact-bytes : (sd : Bool) (six : ℕ) (ns : List ℕ) (m : Sums) → m ≡ sumsOf ns
+    → compactBytes (length ns) m sd ≡ length (compactHeader sd six ns) + total ns
 unfolding sumsOf
 compact-bytes sd six ns m e =
     let sum : m .total ≡ total ns = ap (λ (x : Sums). x .total) e in
@@ -116,7 +118,8 @@ module _ (sd : Bool) (six : ℕ) (frames : List (List ℕ)) where
       (λ e. rw (e, append-nil) (omega arith))
 
   pub filling-formed : (m : ℕ)
-      → filling sd six frames m ≡ formPacket sd six (lengths frames) (fillingForm (length (lengths frames)) (length (compact sd six frames)) m) (joined frames)
+      → filling sd six frames m
+      ≡ formPacket sd six (lengths frames) (fillingForm (length (lengths frames)) (length (compact sd six frames)) m) (joined frames)
   unfolding filling full formPacket
   filling-formed m =
       by-test (ltb (length (compact sd six frames)) m) (λ e. rw (e, full-compact)) (λ e. rw e compact-formed)

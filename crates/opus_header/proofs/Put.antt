@@ -67,7 +67,8 @@ module _ (l : List ℕ) (six count : ℕ) (alike : Bool) where
         → (set l 0 (4 * six + c) ≡ sets l 0 (frontOf six count alike form)) × (1 ≡ length (frontOf six count alike form))
     put-short ec e = rw (e, ec) (refl, refl)
 
-    pub put-either : (n : ℕ) {d : List ℕ} {r : ℕ} → d ≡ sets l 0 (fullFront six count alike n) → r ≡ length (fullFront six count alike n) → form ≡ Full n
+    pub put-either : (n : ℕ) {d : List ℕ} {r : ℕ}
+        → d ≡ sets l 0 (fullFront six count alike n) → r ≡ length (fullFront six count alike n) → form ≡ Full n
         → (d ≡ sets l 0 (frontOf six count alike form)) × (r ≡ length (frontOf six count alike form))
     put-either n ed er e = rw e (ed, er)
 

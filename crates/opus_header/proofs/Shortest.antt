@@ -106,7 +106,8 @@ best {sd} {six} (code3equal (suc count) n l k) = best-equal sd six k count n
 best {sd} {six} (code3unequal ms n l k) = best-unequal sd six k ms n
 
 -- no header is shorter than the compact one, so that a block of frames never has to move up to make room for it
-pub header-shortest : {sd : Bool} {six : ℕ} {head ns : List ℕ} {pad : ℕ} → Layout sd six head ns pad → length (compactHeader sd six ns) ≤ length head
+pub header-shortest : {sd : Bool} {six : ℕ} {head ns : List ℕ} {pad : ℕ} → Layout sd six head ns pad
+    → length (compactHeader sd six ns) ≤ length head
 header-shortest {sd} {six} {head} {ns} l =
     ⊎-elim (λ b. omega (arith, ap length (b .0))) (λ (h : length (compactHeader sd six ns) < length head). omega arith) (best l)
 

@@ -44,10 +44,12 @@ module _ {l : List ℕ} {at : ℕ} {ns d : List ℕ} {next i : ℕ} (w : Written
   written-length = ap length (w .bytes) ∙ length-sets l at (lengthFields (take i ns))
 
   module _ {n : ℕ} (e : n ≡ getD ns i 0) (h : i < length ns) where
-    pub written-room : longest ns ≤ mostBytes → at + length (lengthFields ns) ≤ length l → (n ≤ mostBytes) × (next + length (lengthField n) ≤ length d)
+    pub written-room : longest ns ≤ mostBytes → at + length (lengthFields ns) ≤ length l
+        → (n ≤ mostBytes) × (next + length (lengthField n) ≤ length d)
     written-room s r = rw e (omega (arith, longest-at ns i h, fields-within ns i h, written-length, w .place))
 
-    pub written-more : {d′ : List ℕ} {next′ : ℕ} → d′ ≡ sets d next (lengthField n) → next′ ≡ next + length (lengthField n) → Written l at ns d′ next′ (i + 1)
+    pub written-more : {d′ : List ℕ} {next′ : ℕ} → d′ ≡ sets d next (lengthField n) → next′ ≡ next + length (lengthField n)
+        → Written l at ns d′ next′ (i + 1)
     written-more f g =
         record {
           most = omega arith;

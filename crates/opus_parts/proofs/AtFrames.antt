@@ -31,7 +31,8 @@ use Rattle.opus_parts.proofs.AtSizes.{padded-more, place-is, Known, kno
 
 -- ---- frames from a place of the slice on
 -- of unequal lengths, the last of which is stored behind the others
-unequal-at : (s ns lengths : List ℕ) (n k next sum : ℕ) → length ns ≡ k → k < 48 → next ≤ length s → lengths ≡ padded48 ns → sum ≡ total ns + n
+unequal-at : (s ns lengths : List ℕ) (n k next sum : ℕ)
+    → length ns ≡ k → k < 48 → next ≤ length s → lengths ≡ padded48 ns → sum ≡ total ns + n
     → FramesRead s (front (ns ++ (n ∷ [])) (drop next s)) (At next sum) (set lengths k n)
 unequal-at s ns lengths n k next sum l b h f t =
     let all : total (ns ++ (n ∷ [])) ≡ sum = omega (arith, total-snoc ns n) in
@@ -47,7 +48,8 @@ pub sizes-inside : (s : List ℕ) (k next sum : ℕ) (lengths : List ℕ) → Si
 sizes-inside s k next sum lengths e = known s k next sum lengths e .inside
 
 module _ (s : List ℕ) (k : ℕ) (r : Rule) where
-  pub frames-cut : (sd : Bool) → Cut ≡ sizesAt (length s) (readFields k s) → (l : List ℕ) → FramesRead s (behindFields sd r (readFields k s)) (Broken r) l
+  pub frames-cut : (sd : Bool) → Cut ≡ sizesAt (length s) (readFields k s) → (l : List ℕ)
+      → FramesRead s (behindFields sd r (readFields k s)) (Broken r) l
   frames-cut sd e l = rw (none-known s k e) (refl, tt)
 
   module _ (next sum : ℕ) (lengths : List ℕ) (e : SizesRead s (readFields k s) (All next sum) lengths) where
@@ -74,7 +76,8 @@ module _ (s : List ℕ) (k : ℕ) (r : Rule) where
           → FramesRead s (behindFields false r (readFields k s)) (At next (length s - next)) (set lengths k (length s - next - sum))
       rest-read b m =
           let n = length s - next - sum in
-          let last : behindFields false r (readFields k s) ≡ front (all .ns ++ (n ∷ [])) (drop next s) = rw (means false, left, ← all .summed, le-ltb _ _ m) in
+          let last : behindFields false r (readFields k s) ≡ front (all .ns ++ (n ∷ [])) (drop next s) =
+          rw (means false, left, ← all .summed, le-ltb _ _ m) in
           rw last (unequal-at s (all .ns) lengths n k next _ (all .count) b (all .inside) (all .filled) (omega (arith, all .summed)))
 
       pub own-short : readField (drop next s) ≡ noField → (l : List ℕ) → FramesRead s (behindFields true r (readFields k s)) (Broken R8) l
@@ -87,7 +90,8 @@ module _ (s : List ℕ) (k : ℕ) (r : Rule) where
             lt-ltb (length (drop first s)) (total (all .ns) + n) (omega (arith, length-drop first s, all .summed)) in
             rw (means true, g .means, less) (refl, tt)
 
-        pub own-read : k < 48 → sum + wide ≤ length s - first → FramesRead s (behindFields true r (readFields k s)) (At first (sum + wide)) (set lengths k n)
+        pub own-read : k < 48 → sum + wide ≤ length s - first
+            → FramesRead s (behindFields true r (readFields k s)) (At first (sum + wide)) (set lengths k n)
         own-read b m =
             let enough : ltb (length (drop first s)) (total (all .ns) + n) ≡ false =
             le-ltb (length (drop first s)) (total (all .ns) + n) (omega (arith, length-drop first s, all .summed)) in
@@ -118,7 +122,8 @@ module _ (s : List ℕ) (count : ℕ) (r : Rule) where
 
     pub each-over : length s - first < count * wide → (l : List ℕ) → FramesRead s (equal true r count s) (Broken R8) l
     each-over h l =
-        let less : ltb (length (drop first s)) (count * n) ≡ true = lt-ltb (length (drop first s)) (count * n) (omega (arith, length-drop first s, product)) in
+        let less : ltb (length (drop first s)) (count * n) ≡ true =
+        lt-ltb (length (drop first s)) (count * n) (omega (arith, length-drop first s, product)) in
         rw (g .means, less) (refl, tt)
 
     pub each-read : (lengths : List ℕ) → lengths ≡ padded48 (replicate count n) → count * wide ≤ length s - first
@@ -136,7 +141,8 @@ Within m count (front ns t) = (length t ≤ m) × (total ns ≤ length t) × (le
 module _ (s : List ℕ) (count : ℕ) where
   -- a fact of what follows from a field at a place
   from-field : (g : Field → Front) (at : ℕ) → Within (length s) count (g noField)
-      → ((n : ℕ) (t : List ℕ) → length t ≤ length s → Within (length s) count (g (field n t))) → Within (length s) count (g (readField (drop at s)))
+      → ((n : ℕ) (t : List ℕ) → length t ≤ length s → Within (length s) count (g (field n t)))
+      → Within (length s) count (g (readField (drop at s)))
   from-field g at none one = go (read-at s at)
     where
       go : Read s at → Within (length s) count (g (readField (drop at s)))

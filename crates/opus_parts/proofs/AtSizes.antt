@@ -80,7 +80,8 @@ module _ (s : List ℕ) (k : ℕ) where
     one-less : i < k → k - i ≡ suc (k - (i + 1))
     one-less h = omega arith
 
-    pub sizes-more : i < k → k < 48 → (n after w : ℕ) → Found s next n after → w ≡ n → w < 65536 → Sizes s k (set lengths i n) after (sum + w) (i + 1)
+    pub sizes-more : i < k → k < 48 → (n after w : ℕ) → Found s next n after → w ≡ n → w < 65536
+        → Sizes s k (set lengths i n) after (sum + w) (i + 1)
     sizes-more h b n after w f e small =
         record {
           done = z .done ++ (n ∷ []);

@@ -31,7 +31,8 @@ long a b h k =
     rw (two-bytes (4 * b + a) (omega arith), first, second)
 
 -- a length up to 1275 is below 252, or is 4 * b + a with bytes a and b
-forms : (P : ℕ → Type 0) → ((n : ℕ) → n < 252 → P n) → ((a b : ℕ) → 252 ≤ a → a < 256 → b < 256 → P (4 * b + a)) → (n : ℕ) → n ≤ mostBytes → P n
+forms : (P : ℕ → Type 0) → ((n : ℕ) → n < 252 → P n) → ((a b : ℕ) → 252 ≤ a → a < 256 → b < 256 → P (4 * b + a))
+    → (n : ℕ) → n ≤ mostBytes → P n
 forms P s l n h =
     by-test (ltb n 252) (λ e. s n (ltb-true n 252 e))
     (λ e.
@@ -59,7 +60,8 @@ pub field-was : (s rest : List ℕ) (n : ℕ) → Bytes s → readField s ≡ fi
 field-was [] rest n bytes r = never (cc)
 field-was (a ∷ s) rest n bytes r = go (ltb a 252) refl s bytes r
   where
-    go : (t : Bool) → ltb a 252 ≡ t → (s : List ℕ) → Bytes (a ∷ s) → readField (a ∷ s) ≡ field n rest → (a ∷ s ≡ lengthField n ++ rest) × (n ≤ mostBytes)
+    go : (t : Bool) → ltb a 252 ≡ t → (s : List ℕ) → Bytes (a ∷ s) → readField (a ∷ s) ≡ field n rest
+        → (a ∷ s ≡ lengthField n ++ rest) × (n ≤ mostBytes)
     go true e s bytes r =
         let h : a < 252 = ltb-true a 252 e in
         let q : field a s ≡ field n rest = sym (read-short a s h) ∙ r in

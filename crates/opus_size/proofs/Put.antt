@@ -45,7 +45,8 @@ module _ (z : ℤ) (s : List ℕ) where
     unfolding encodeSize
     encode-long h = rw (is-pos, lt-ltb mostBytes n h) (refl, refl)
 
-    pub encode-full : n ≤ mostBytes → length s < length (lengthField n) → (refusalNumber BufferTooSmall ≡ encodeSize z s .number) × (s ≡ encodeSize z s .bytes)
+    pub encode-full : n ≤ mostBytes → length s < length (lengthField n)
+        → (refusalNumber BufferTooSmall ≡ encodeSize z s .number) × (s ≡ encodeSize z s .bytes)
     unfolding encodeSize
     encode-full h k = rw (is-pos, le-ltb mostBytes n h, lt-ltb (length s) (length (lengthField n)) k) (refl, refl)
 

@@ -26,8 +26,9 @@ divisor-rate rate false e h = absurd (h (rw e))
 divisor-none : (rate : ℕ) → divisorOf rate ≡ 0 → isRate rate ≡ false
 divisor-none rate z =
     by-test (isRate rate)
-    (λ e. absurd
-    (each-rate (λ r. 48000 / r ≡ 0 → ⊥) (λ h. omega arith) (λ h. omega arith) (λ h. omega arith) (λ h. omega arith) (λ h. omega arith) rate e (rw e at z)))
+    (λ e.
+    let some = each-rate (λ r. 48000 / r ≡ 0 → ⊥) (λ h. omega arith) (λ h. omega arith) (λ h. omega arith) (λ h. omega arith) (λ h. omega arith) in
+    absurd (some rate e (rw e at z)))
     (λ e. e)
 
 pub samples-empty : (s : List ℕ) (rate : ℕ) → length s ≡ 0 → Refused BadArg ≡ samplesAt s rate

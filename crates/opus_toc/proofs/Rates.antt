@@ -37,6 +37,7 @@ rate-at f t =
     each-rate (λ r. f r ≡ true) (both-left (f 8000) _ t) (both-left (f 12000) _ t₂) (both-left (f 16000) _ t₃) (both-left (f 24000) _ t₄)
     (both-right (f 24000) _ t₄)
 
-pub no-rate : (r : ℕ) → (r ≡ 8000 → ⊥) → (r ≡ 12000 → ⊥) → (r ≡ 16000 → ⊥) → (r ≡ 24000 → ⊥) → (r ≡ 48000 → ⊥) → isRate r ≡ false
+pub no-rate : (r : ℕ) → (r ≡ 8000 → ⊥) → (r ≡ 12000 → ⊥) → (r ≡ 16000 → ⊥) → (r ≡ 24000 → ⊥) → (r ≡ 48000 → ⊥)
+    → isRate r ≡ false
 no-rate r n8 n12 n16 n24 n48 =
     rw (ne-eqb r 8000 n8, ne-eqb r 12000 n12, ne-eqb r 16000 n16, ne-eqb r 24000 n24, ne-eqb r 48000 n48)

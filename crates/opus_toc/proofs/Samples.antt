@@ -30,15 +30,16 @@ pub table-rule : (table : List ℕ) → everyBelow 256 (λ k. eqb (getD table k 
 table-rule table = equal-below 256 (λ k. getD table k 0) (λ k. samples 48000 (configuration k))
 
 -- the same at each rate, by one test over all five
-at-rates : (m : ℕ) (f g : ℕ → ℕ → ℕ) → everyRate (λ r. everyBelow m (λ k. eqb (f r k) (g r k))) ≡ true → (rate : ℕ) → isRate rate ≡ true → (k : ℕ) → k < m
-    → f rate k ≡ g rate k
+at-rates : (m : ℕ) (f g : ℕ → ℕ → ℕ) → everyRate (λ r. everyBelow m (λ k. eqb (f r k) (g r k))) ≡ true
+    → (rate : ℕ) → isRate rate ≡ true → (k : ℕ) → k < m → f rate k ≡ g rate k
 at-rates m f g t rate e = equal-below m (f rate) (g rate) (rate-at (λ r. everyBelow m (λ k. eqb (f r k) (g r k))) t rate e)
 
 pub formula-agrees : (rate : ℕ) → isRate rate ≡ true → (toc : ℕ) → toc < 256 → crateSamples rate toc ≡ samples rate (configuration toc)
 unfolding crateSamples samples duration
 formula-agrees = at-rates 256 crateSamples (λ r k. samples r (configuration k)) refl
 
-pub scaled : (rate : ℕ) → isRate rate ≡ true → (toc : ℕ) → toc < 256 → samples 48000 (configuration toc) / (48000 / rate) ≡ samples rate (configuration toc)
+pub scaled : (rate : ℕ) → isRate rate ≡ true → (toc : ℕ) → toc < 256
+    → samples 48000 (configuration toc) / (48000 / rate) ≡ samples rate (configuration toc)
 unfolding samples duration
 scaled = at-rates 256 (λ r k. samples 48000 (configuration k) / (48000 / r)) (λ r k. samples r (configuration k)) refl
 
@@ -56,13 +57,15 @@ same-limit a b l m f g =
     (λ t. by-test (leb b m) (λ u. le-leb a l (g (leb-true b m u)) ∙ sym u) (λ u. t ∙ sym u))
 
 -- rate * 3 / 25 samples are 120 ms: 960 at 8 kHz, 5760 at 48 kHz
-pub lasts-at : (rate : ℕ) → isRate rate ≡ true → (count c : ℕ) → c < 32 → leb (count * samples rate c) (rate * 3 / 25) ≡ leb (count * duration c) 1200
+pub lasts-at : (rate : ℕ) → isRate rate ≡ true → (count c : ℕ) → c < 32
+    → leb (count * samples rate c) (rate * 3 / 25) ≡ leb (count * duration c) 1200
 lasts-at rate e count c h = go rate e
   where
     P : ℕ → Type 0
     P r = 10000 * (count * samples r c) ≡ r * (count * duration c) → leb (count * samples r c) (r * 3 / 25) ≡ leb (count * duration c) 1200
 
-    at : (r : ℕ) → ((s d : ℕ) → 10000 * s ≡ r * d → s ≤ r * 3 / 25 → d ≤ 1200) → ((s d : ℕ) → 10000 * s ≡ r * d → d ≤ 1200 → s ≤ r * 3 / 25) → P r
+    at : (r : ℕ) → ((s d : ℕ) → 10000 * s ≡ r * d → s ≤ r * 3 / 25 → d ≤ 1200)
+        → ((s d : ℕ) → 10000 * s ≡ r * d → d ≤ 1200 → s ≤ r * 3 / 25) → P r
     at r f g x =
         same-limit (count * samples r c) (count * duration c) (r * 3 / 25) 1200 (f (count * samples r c) (count * duration c) x)
         (g (count * samples r c) (count * duration c) x)

@@ -37,7 +37,8 @@ pub record Lies (sd : Bool) (s : List ℕ) (len : ℕ) (r : Packet) : Type 0 whe
   -- the compact packet is no longer than the one that was read
   pub least : length (compact sd (upperSix (r .toc)) (cut (lengthsOf r) (drop (r .first) s))) ≤ len
 
-pub lies : (sd : Bool) (s : List ℕ) (len : ℕ) (r : Packet) → Bytes s → len ≤ length s → r ≡ parsed sd (take len s) → r .verdict ≡ Accepted → Lies sd s len r
+pub lies : (sd : Bool) (s : List ℕ) (len : ℕ) (r : Packet) → Bytes s → len ≤ length s → r ≡ parsed sd (take len s) → r .verdict ≡ Accepted
+    → Lies sd s len r
 lies sd s len r bytes h e v =
     let p = take len s in
     let long : length p ≡ len = length-take-le len s h in

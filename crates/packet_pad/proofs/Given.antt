@@ -72,12 +72,13 @@ module _ (n m : ℕ) where
         lengths-more h = rw (ne-eqb n 0 z, ne-eqb m 0 y, ne-eqb n m x, le-ltb m n h)
 
 -- what `lengths_of` answers, from what `length_of` answered of each
-pub lengths-are : (s : List ℕ) (x y : ℤ) {n m : ℕ} {l : Lengths} → lengthOf s x ≡ n → lengthOf s y ≡ m → l ≡ lengthsBy n m → l ≡ lengthsOf s x y
+pub lengths-are : (s : List ℕ) (x y : ℤ) {n m : ℕ} {l : Lengths} → lengthOf s x ≡ n → lengthOf s y ≡ m → l ≡ lengthsBy n m
+    → l ≡ lengthsOf s x y
 unfolding lengthsOf
 lengths-are s x y a b e = rw (a, b) e
 
-pub lengths-told : (s : List ℕ) (x y : ℤ) → SFits w32 x → SFits w32 y → {l k : Lengths} → l ≡ lengthsOf s (toZ w32 (ofZ w32 x)) (toZ w32 (ofZ w32 y))
-    → l ≡ k → lengthsOf s x y ≡ k
+pub lengths-told : (s : List ℕ) (x y : ℤ) → SFits w32 x → SFits w32 y
+    → {l k : Lengths} → l ≡ lengthsOf s (toZ w32 (ofZ w32 x)) (toZ w32 (ofZ w32 y)) → l ≡ k → lengthsOf s x y ≡ k
 lengths-told s x y f g e t = sym (rw (toZ-ofZ w32 x f, toZ-ofZ w32 y g) at e) ∙ t
 
 more-by : (a b n m : ℕ) → lengthsBy a b ≡ More n m → (a ≡ n) × (b ≡ m) × (1 ≤ a) × (a < b)

@@ -25,8 +25,8 @@ runs s head block zeros at n h k =
     rw (sets-before-sets s 0 head at block (omega arith), ← append-assoc head block zeros, sets-append s 0 (head ++ block) zeros, place)
 
 -- m counts the lengths ns of the frames that stand in s from place `first` on, and `at` is the header's length
-module _ (sd : Bool) (six : ℕ) (ns : List ℕ) (m : Sums) (form : Form) (s : List ℕ) (first at : ℕ) (e : m ≡ sumsOf ns) (block : first + total ns ≤ length s)
-    (a : at ≡ headerBytes m form sd) where
+module _ (sd : Bool) (six : ℕ) (ns : List ℕ) (m : Sums) (form : Form) (s : List ℕ) (first at : ℕ) (e : m ≡ sumsOf ns)
+    (block : first + total ns ≤ length s) (a : at ≡ headerBytes m form sd) where
   abbrev packet : List ℕ
   packet = formPacket sd six ns form (part s first (total ns))
 
@@ -48,7 +48,8 @@ module _ (sd : Bool) (six : ℕ) (ns : List ℕ) (m : Sums) (form : Form) (s : L
 
   -- the buffer after the move, the header and the zeros
   pub rewritten : {s₁ s₂ s₃ : List ℕ} {zeros : ℕ} → s₁ ≡ moved s first at (m .total) → s₂ ≡ sets s₁ 0 (headerOf sd six ns form)
-      → zeros ≡ padBytes (missing form) → s₃ ≡ filled s₂ (at + m .total) zeros 0 → (s₃ ≡ sets s 0 packet) × (at + m .total + zeros ≡ length packet)
+      → zeros ≡ padBytes (missing form) → s₃ ≡ filled s₂ (at + m .total) zeros 0
+      → (s₃ ≡ sets s 0 packet) × (at + m .total + zeros ≡ length packet)
   unfolding formPacket
   rewritten e₁ e₂ z e₃ =
       let three =

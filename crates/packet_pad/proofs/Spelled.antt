@@ -67,14 +67,16 @@ module _ {six : ℕ} {p : List ℕ} {frames : List (List ℕ)} (w : Spells false
   unfolding unpadPacket
   unpads = rw (reading w, cuts-back w, spelled-six w)
 
-module _ {six : ℕ} {frames : List (List ℕ)} (s : List ℕ) (len : ℕ) (fits : len ≤ length s) (most : len ≤ 65535) (w : Spells false six (take len s) frames) where
+module _ {six : ℕ} {frames : List (List ℕ)} (s : List ℕ) (len : ℕ) (fits : len ≤ length s) (most : len ≤ 65535)
+    (w : Spells false six (take len s) frames) where
   some : 1 ≤ len
   some = omega (arith, length-take-le len s fits, spelled-some w)
 
   pub unpad-spelled : unpadded s (pos len) ≡ writes (compact false six frames) s
   unpad-spelled = unpad-some s (pos len) len (length-own s len fits most) (λ z. omega (arith, some)) ∙ ap (leaves s) (unpads w)
 
-  pub pad-spelled : (new : ℕ) → len < new → new ≤ length s → new ≤ 65535 → padded s (pos len) (pos new) ≡ padsTo (filling false six frames new) s
+  pub pad-spelled : (new : ℕ) → len < new → new ≤ length s → new ≤ 65535
+      → padded s (pos len) (pos new) ≡ padsTo (filling false six frames new) s
   pad-spelled new more room short =
       pad-more s (pos len) (pos new) len new (lengths-own s len new some more room short) ∙ ap (leaves s) (pads w new)
 

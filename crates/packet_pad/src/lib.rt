@@ -54,7 +54,8 @@ fn rewrite(
     requires some { ⌜ (1 ≤ length (now ns)) × (length (now ns) ≤ 48) × (longest (now ns) ≤ mostBytes) ⌝ }
     requires few { ⌜ missing form ≤ 65535 ⌝ }
     requires block { ⌜ first + total (now ns) ≤ length (now «data») ⌝ }
-    requires room { ⌜ length (formPacket «self_delimited» (upperSix toc) (now ns) form (part (now «data») first (total (now ns)))) ≤ length (now «data») ⌝ }
+    requires room { ⌜ length (formPacket «self_delimited» (upperSix toc) (now ns) form (part (now «data») first (total (now ns))))
+        ≤ length (now «data») ⌝ }
     ensures bytes { λ _. ⌜ now («data» .exit)
         ≡ sets (now («data» .entry)) 0
         (formPacket «self_delimited» (upperSix toc) (now (ns .entry)) form (part (now («data» .entry)) first (total (now (ns .entry))))) ⌝ }

@@ -76,7 +76,8 @@ module _ (rp : OpusRepacketizer) (toc : ℕ) (ns : List ℕ) (s : sound rp ≡ t
       (λ e. rw e (goes-timed rp toc (length ns) (eqb-false (rp .«nb_frames») 0 e) s g))
 
   -- so all of them fit the least store
-  pub with-room : rp .toc < 256 → length (rp .len) ≡ 48 → length ns ≤ 48 → longest ns ≤ mostBytes → total (heldLengths rp) + total ns ≤ leastStore
+  pub with-room : rp .toc < 256 → length (rp .len) ≡ 48 → length ns ≤ 48 → longest ns ≤ mostBytes
+      → total (heldLengths rp) + total ns ≤ leastStore
   with-room b l h m =
       let w = holding rp b l s in
       omega (arith, total-most (heldLengths rp) (w .small), total-most ns m, w .count, with-few b h)
@@ -112,7 +113,8 @@ module _ (rp : OpusRepacketizer) (toc : ℕ) (ns p : List ℕ) (first : ℕ) (st
 pub block-as : (h : Head) (len : List ℕ) (toc : ℕ) (ns p : List ℕ) (first : ℕ) (store : List ℕ)
     → let rp = collectorOf h len in
     goesWith rp toc (length ns) ≡ true → (at n : ℕ) (r : AddedHead) (all left : List ℕ) → at ≡ total (heldLengths rp) → n ≡ total ns
-    → r ≡ moreFrames h toc (length ns) → all ≡ sets len (h .«nb_frames») ns → left ≡ copied store at p first n → h .«nb_frames» + length ns ≤ 48
+    → r ≡ moreFrames h toc (length ns) → all ≡ sets len (h .«nb_frames») ns → left ≡ copied store at p first n
+    → h .«nb_frames» + length ns ≤ 48
     → let block = addBlock rp toc ns p first store in
     (addedOf r all ≡ block .answer) × ((left ≡ block .store) × (r .count < 65536))
 block-as h len toc ns p first store g at n r all left a b w l c f =

@@ -74,6 +74,7 @@ module _ (rp : OpusRepacketizer) where
           pub check-total : m .longest ≤ mostBytes → {k : ℕ} → k ≡ m .total → record { sound = true; total = k } ≡ checked rp
           check-total w {k} q =
               let small : longest (heldLengths rp) ≤ mostBytes = rw (p, a) at w in
-              let whole = sum-small (heldLengths rp) (omega (arith, length-take-le (rp .«nb_frames») (rp .len) (omega (arith, check-few)), check-few)) small in
+              let size = length-take-le (rp .«nb_frames») (rp .len) (omega (arith, check-few)) in
+              let whole = sum-small (heldLengths rp) (omega (arith, size, check-few)) small in
               let sum : m .total ≡ total (heldLengths rp) = rw (p, a) whole in
               is-sound (sym by-longest ∙ le-leb (m .longest) mostBytes w) (q ∙ sum)

@@ -26,7 +26,8 @@ module _ (l : List ℕ) (at : ℕ) where
   sets-again [] h = absurd (omega arith)
   sets-again (n ∷ ns) h = ap (λ (m : List ℕ). sets m (suc at) ns) (set-set l at n n)
 
-pub sets-more : (ns : List ℕ) (i : ℕ) → i < length ns → (l : List ℕ) (at : ℕ) → set (sets l at (take i ns)) (at + i) (getD ns i 0) ≡ sets l at (take (i + 1) ns)
+pub sets-more : (ns : List ℕ) (i : ℕ) → i < length ns → (l : List ℕ) (at : ℕ)
+    → set (sets l at (take i ns)) (at + i) (getD ns i 0) ≡ sets l at (take (i + 1) ns)
 sets-more ns i h l at =
     rw (take-next ns i h) (sets-next l at i (take i ns) (getD ns i 0) (length-take-le i ns (omega arith)))
 

@@ -261,7 +261,8 @@ fn add_block(
 ) -> AddedHead
     requires collector { ⌜ (length (now len) ≡ 48) × (sound (collectorOf h (now len)) ≡ true)
         × (at ≡ total (heldLengths (collectorOf h (now len)))) × (leastStore ≤ length (now store)) ⌝ }
-    requires frames { ⌜ (1 ≤ length (now ns)) × (length (now ns) ≤ 48) × (longest (now ns) ≤ mostBytes) × (first + total (now ns) ≤ length (now «data»)) ⌝ }
+    requires frames { ⌜ (1 ≤ length (now ns)) × (length (now ns) ≤ 48)
+        × (longest (now ns) ≤ mostBytes) × (first + total (now ns) ≤ length (now «data»)) ⌝ }
     ensures answer { λ r. ⌜ addedOf r (now (len .exit))
         ≡ addBlock (collectorOf h (now (len .entry))) toc (now (ns .entry)) (now («data» .entry)) first (now (store .entry)) .answer ⌝ }
     ensures bytes { λ _. ⌜ now (store .exit)
@@ -408,7 +409,8 @@ pub fn add(
 ) -> AddedHead
     ensures answer { λ r. ⌜ addedOf r (now (len .exit))
         ≡ added «self_delimited» (collectorOf h (now (len .entry))) (now («data» .entry)) (now (store .entry)) .answer ⌝ }
-    ensures bytes { λ _. ⌜ now (store .exit) ≡ added «self_delimited» (collectorOf h (now (len .entry))) (now («data» .entry)) (now (store .entry)) .store ⌝ }
+    ensures bytes { λ _. ⌜ now (store .exit)
+        ≡ added «self_delimited» (collectorOf h (now (len .entry))) (now («data» .entry)) (now (store .entry)) .store ⌝ }
     ensures few { λ r. ⌜ r .count < 65536 ⌝ }
 {
     let c = check(h, &len[..]);

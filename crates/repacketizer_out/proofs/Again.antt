@@ -67,8 +67,8 @@ fine-append a b f =
     )
 
 -- ---- one piece more
-module _ (sd : Bool) (six : ℕ) (k : six < 64) {s : State} {done : List (List ℕ)} (h : Holds six s done) (piece : List (List ℕ)) (some : 1 ≤ length piece)
-    (l : Lasts six (length done + length piece)) (f : Fine piece) where
+module _ (sd : Bool) (six : ℕ) (k : six < 64) {s : State} {done : List (List ℕ)} (h : Holds six s done) (piece : List (List ℕ))
+    (some : 1 ≤ length piece) (l : Lasts six (length done + length piece)) (f : Fine piece) where
   abbrev p : List ℕ
   p = compact sd six piece
 

@@ -69,7 +69,8 @@ module _ (sd pad : Bool) (rp : OpusRepacketizer) (store : List ℕ) (begin end :
 
 -- ---- the range
 module _ (sd pad : Bool) (six : ℕ) (frames : List (List ℕ)) (dst : List ℕ) where
-  pub frames-before : (begin end : ℤ) → countOf begin ≡ Negative → leaves dst (outFrames sd pad six frames begin end (length dst)) ≡ refuses BadArg dst
+  pub frames-before : (begin end : ℤ) → countOf begin ≡ Negative
+      → leaves dst (outFrames sd pad six frames begin end (length dst)) ≡ refuses BadArg dst
   frames-before (pos b) end e = never (cc)
   frames-before (negsuc b) end e = refl
 
@@ -119,7 +120,8 @@ module _ (sd pad : Bool) (rp : OpusRepacketizer) (store dst : List ℕ) (h : Hol
       frames-within sd pad (upperSix (rp .toc)) (held rp store) dst b e some (omega (arith, length-held rp store h))
       ∙ rw (part-of rp h b e some k .frames store, f)
 
-pub range-output : (sd pad : Bool) (s : State) → Ready s → (b e : ℕ) → b < e → e ≤ length (held (s .rp) (s .store)) → (dst : List ℕ) → length dst ≤ 65535
+pub range-output : (sd pad : Bool) (s : State) → Ready s → (b e : ℕ) → b < e → e ≤ length (held (s .rp) (s .store))
+    → (dst : List ℕ) → length dst ≤ 65535
     → outRange sd pad (s .rp) (s .store) (pos b) (pos e) dst ≡ leaves dst
     (output sd pad (upperSix (s .rp .toc)) (range b e (held (s .rp) (s .store))) (length dst))
 range-output sd pad s r b e some within dst most =

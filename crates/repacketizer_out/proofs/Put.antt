@@ -101,7 +101,7 @@ module _ (sd pad : Bool) (six : ℕ) (ns store : List ℕ) (from : ℕ) (dst : L
       module _ {d : List ℕ} {end : ℕ} (put : d ≡ sets dst 0 (head ++ part store from (total ns))) (ends : end ≡ length head + total ns) where
         -- the compact packet has no zeros
         pub put-plain : pad ≡ false
-            → (pos end ≡ leaves dst (output sd pad six frames (length dst)) .number) × (d ≡ leaves dst (output sd pad six frames (length dst)) .bytes)
+            → let x = leaves dst (output sd pad six frames (length dst)) in (pos end ≡ x .number) × (d ≡ x .bytes)
         put-plain p =
             let form-is = rw p at chosen in
             let none : padBytes (missing form) ≡ 0 = rw (form-is, compact-missing (length ns)) in
@@ -111,7 +111,7 @@ module _ (sd pad : Bool) (six : ℕ) (ns store : List ℕ) (from : ℕ) (dst : L
 
         -- the zeros reach the end of the destination
         pub put-padded : pad ≡ true → {d′ : List ℕ} → d′ ≡ filled d end (length dst - end) 0
-            → (pos (length dst) ≡ leaves dst (output sd pad six frames (length dst)) .number) × (d′ ≡ leaves dst (output sd pad six frames (length dst)) .bytes)
+            → let x = leaves dst (output sd pad six frames (length dst)) in (pos (length dst) ≡ x .number) × (d′ ≡ x .bytes)
         put-padded p {d′} f =
             let behind : end ≡ length (head ++ part store from (total ns)) =
             ends

@@ -111,8 +111,8 @@ part-of rp h b e some within =
     }
 
 -- where it begins in the store, as the code counts it
-pub part-from : {rp : OpusRepacketizer} {b e : ℕ} → Part rp b e → (m : Measured) → m ≡ measured (take b (rp .len)) → {from : ℕ} → from ≡ m .total
-    → from ≡ total (take b (rp .len))
+pub part-from : {rp : OpusRepacketizer} {b e : ℕ} → Part rp b e → (m : Measured) → m ≡ measured (take b (rp .len))
+    → {from : ℕ} → from ≡ m .total → from ≡ total (take b (rp .len))
 part-from {rp} {b} p m q f =
     let sum : total (take b (rp .len)) % 65536 ≡ total (take b (rp .len)) = omega (arith, p .block) in
     f ∙ (ap (λ (k : Measured). k .total) q ∙ sum)

@@ -21,7 +21,8 @@ pub record Laid (l : List ℕ) (at : ℕ) (text d : List ℕ) (next : ℕ) : Typ
   pub bytes : d ≡ sets l at text
   pub place : next ≡ at + length text
 
-pub laid-ends : {l : List ℕ} {at : ℕ} {a d : List ℕ} {next : ℕ} → Laid l at a d next → {b : List ℕ} → b ≡ a → (d ≡ sets l at b) × (next ≡ at + length b)
+pub laid-ends : {l : List ℕ} {at : ℕ} {a d : List ℕ} {next : ℕ} → Laid l at a d next → {b : List ℕ} → b ≡ a
+    → (d ≡ sets l at b) × (next ≡ at + length b)
 laid-ends k e = rw e (k .bytes, k .place)
 
 pub laid-as : (l : List ℕ) (at : ℕ) {a b : List ℕ} → b ≡ a → at + length b ≤ length l → at + length a ≤ length l

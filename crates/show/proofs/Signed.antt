@@ -60,7 +60,8 @@ module _ (x : ℤ) (f : SFits w32 x) (h : ltZ (toZ w32 (ofZ w32 x)) (pos 0) ≡ 
       signed : (y : ℤ) (n : ℕ) → y ≡ negsuc n → {m : ℕ} → m ≡ natAbs y → integer y ≡ 45 ∷ decimal m
       signed y n e g = rw (g, e)
 
-pub natural-text : (x : ℤ) → SFits w32 x → ltZ (toZ w32 (ofZ w32 x)) (pos 0) ≡ false → {m : ℕ} → m ≡ natAbs (toZ w32 (ofZ w32 x)) → integer x ≡ decimal m
+pub natural-text : (x : ℤ) → SFits w32 x → ltZ (toZ w32 (ofZ w32 x)) (pos 0) ≡ false → {m : ℕ} → m ≡ natAbs (toZ w32 (ofZ w32 x))
+    → integer x ≡ decimal m
 unfolding integer
 natural-text x f h e = natural x _ (usize-is x f h) (rw (toZ-ofZ w32 x f) at e)
   where

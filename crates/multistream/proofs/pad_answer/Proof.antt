@@ -46,14 +46,16 @@ returns-2 c =
     let t = c .before .before in
     let i = t .before .before in
     let a = i .before .before .before .args in
-    meets (pad-bad (a .«data» .now) (a .len) (a .new-len) (a .nb-streams) _ (streams (i .before)) (i .if1 .left) (told t (c .enum-told .given .1))) refl refl
+    let is = pad-bad (a .«data» .now) (a .len) (a .new-len) (a .nb-streams) _ (streams (i .before)) (i .if1 .left) (told t (c .enum-told .given .1)) in
+    meets is refl refl
 
 returns-3 : tie.Need-returns-3
 returns-3 c =
     let t = c .before .before in
     let i = t .before .before in
     let a = i .before .before .before .args in
-    meets (pad-same (a .«data» .now) (a .len) (a .new-len) (a .nb-streams) _ (streams (i .before)) (i .if1 .left) (told t (c .enum-told2 .given .1))) refl refl
+    let is = pad-same (a .«data» .now) (a .len) (a .new-len) (a .nb-streams) _ (streams (i .before)) (i .if1 .left) (told t (c .enum-told2 .given .1)) in
+    meets is refl refl
 
 returns-4 : tie.Need-returns-4
 returns-4 c =

@@ -23,9 +23,10 @@ repack-stream-requires c κs =
     let i = c .before in
     let l = i .before .loop in
     let s = i .before .before .before in
-    let a = s .args in (
+    let a = s .args in
+    let more = i .loop-test .taken in (
       in-places (a .«data» .now) (a .len) (a .k) (s .pre .0) (s .pre .1) (s .pre .2) (l .«data») (l .to) (l .from) (l .i) (l .inv),
-      repacking-reads (a .«data» .now) (a .len) (a .k) (s .pre .0) (s .pre .1) (s .pre .2) (l .«data») (l .to) (l .from) (l .i) (l .inv) (i .loop-test .taken),
+      repacking-reads (a .«data» .now) (a .len) (a .k) (s .pre .0) (s .pre .1) (s .pre .2) (l .«data») (l .to) (l .from) (l .i) (l .inv) more,
     )
 
 loop-again : tie.Need-loop-again Inv-loop μ-loop
@@ -44,9 +45,10 @@ repack-stream-requires-2 c κs =
     let i = c .before in
     let l = i .before .loop in
     let s = i .before .before .before in
-    let a = s .args in (
+    let a = s .args in
+    let last = i .loop-test .left in (
       in-places (a .«data» .now) (a .len) (a .k) (s .pre .0) (s .pre .1) (s .pre .2) (l .«data») (l .to) (l .from) (l .i) (l .inv),
-      repacking-last (a .«data» .now) (a .len) (a .k) (s .pre .0) (s .pre .1) (s .pre .2) (l .«data») (l .to) (l .from) (l .i) (l .inv) (i .loop-test .left),
+      repacking-last (a .«data» .now) (a .len) (a .k) (s .pre .0) (s .pre .1) (s .pre .2) (l .«data») (l .to) (l .from) (l .i) (l .inv) last,
     )
 
 same-length : tie.Need-same-length Inv-loop μ-loop

@@ -8,7 +8,8 @@ use mathlib.Core.Logic.{⊎-elim}
 use lib.ListN.{length, getD}
 use borrow.Author.Needs.{needs}
 use Rattle.opus_size.proofs.Fields.{width}
-use Rattle.opus_header.proofs.Counted.{Counted, counted-start, agrees, differs, counted-small, counted-more, counted-field, counted-same, counted-differ}
+use Rattle.opus_header.proofs.Counted.{Counted, counted-start, agrees, differs}
+use Rattle.opus_header.proofs.Counted.{counted-small, counted-more, counted-field, counted-same, counted-differ}
 use Rattle.opus_header.proofs.sums_of.Statement.{statement}
 use Rattle.opus_header.proofs.sums_of.Tie as tie
 

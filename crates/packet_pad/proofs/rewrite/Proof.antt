@@ -20,7 +20,8 @@ header-bytes-requires c κs =
 -- the block where it stands, and each part of the packet, are within the buffer
 fit : (c : tie.After-header-bytes)
     → let a = c .before .before .before .args in
-    (a .first + a .m .total ≤ length (a .«data» .now)) × (c .header-bytes .result + a .m .total + padBytes (missing (a .form)) ≤ length (a .«data» .now))
+    let room = length (a .«data» .now) in
+    (a .first + a .m .total ≤ room) × (c .header-bytes .result + a .m .total + padBytes (missing (a .form)) ≤ room)
 fit c =
     let s = c .before .before .before in
     let a = s .args in

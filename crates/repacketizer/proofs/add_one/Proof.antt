@@ -73,8 +73,8 @@ returns-2 c =
     let i = t .before .before in
     let s = entry (i .before) in
     let a = s .args in
-    block-as (a .h) (a .len .now) (a .toc) (a .n ∷ []) (a .«data» .now) (a .first) (a .store .now) (goes i) (a .at) (t .wide .result) (c .more-frames .result)
-    _ (k .copy-into .last .0) (s .pre .0 .2) (omega (arith, t .wide .ensures .0)) (c .more-frames .ensures)
+    block-as (a .h) (a .len .now) (a .toc) (a .n ∷ []) (a .«data» .now) (a .first) (a .store .now) (goes i) (a .at) (t .wide .result)
+    (c .more-frames .result) _ (k .copy-into .last .0) (s .pre .0 .2) (omega (arith, t .wide .ensures .0)) (c .more-frames .ensures)
     (one-put (a .len .now) (w .wide2 .result) (a .h .«nb_frames») (a .n) (w .wide2 .ensures .0)) (k .copy-into .ensures) (few i)
 
 pub add-one-spec : {M : Type 1} → statement M

@@ -105,8 +105,9 @@ collector-is r w len is few ls =
     let a = LL.owed O.the-type O′.the-laws r _ is in
     LL.owes T.the-type T′.the-laws (addedOf r len .rp) (a .1 .0, ((refl, few), (a .1 .1 .0, (ls, tt))))
 
-module _ {M : Type 1} (𝓤 : URA M) (H : Heap 𝓤) (A : Atoms 𝓤) (W : Given 𝓤 H A) (mem : Memory → SProp 𝓤) (run : Routine → Fun 𝓤) (C : Calls 𝓤 H) (Λ : Loops 𝓤 H)
-    (κ κ₁ κ₂ : Lft) (q q₁ q₂ : Share) (b o : ℕ) (γ : GName) (h : OpusRepacketizer) (packet store : RefT (List ℕ)) where
+module _ {M : Type 1} (𝓤 : URA M) (H : Heap 𝓤) (A : Atoms 𝓤) (W : Given 𝓤 H A) (mem : Memory → SProp 𝓤) (run : Routine → Fun 𝓤)
+    (C : Calls 𝓤 H) (Λ : Loops 𝓤 H) (κ κ₁ κ₂ : Lft) (q q₁ q₂ : Share) (b o : ℕ) (γ : GName)
+    (h : OpusRepacketizer) (packet store : RefT (List ℕ)) where
   abbrev x : RefT OpusRepacketizer
   x = record { ptr = (b, o); name = γ; now = h }
 
@@ -148,14 +149,15 @@ module _ {M : Type 1} (𝓤 : URA M) (H : Heap 𝓤) (A : Atoms 𝓤) (W : Given
   )
 
   goes-core : (α : ℕ) (δ : GName) → Is D.the-row (headOf h) (head-vals h)
-      → ent 𝓤 (⋆ 𝓤 H A (‵ (own-lent α δ) ∷ ‵ (flft (α ∷ []) fullShare) ∷ (‵ slices ⊛ tokens) ∷ [])) (Core 𝓤 H A mem run .pre (to-core α δ))
+      → ent 𝓤 (⋆ 𝓤 H A (‵ (own-lent α δ) ∷ ‵ (flft (α ∷ []) fullShare) ∷ (‵ slices ⊛ tokens) ∷ []))
+      (Core 𝓤 H A mem run .pre (to-core α δ))
   goes-core α δ is =
       qed W (‵ (own-lent α δ) ∷ ‵ (flft (α ∷ []) fullShare) ∷ (‵ slices ⊛ tokens) ∷ []) ∵ move ! (2 ∷ []) $ split ! $ fsplit ! $
       -- [the packet; the store; the tokens; the lengths; their token]
       move ! (1 ∷ []) $ owned ! bool (Is bool) (bool-makes 𝓤 H A W) false (vbool false ∷ []) refl $ fjoin ! $ move ! (1 ∷ 0 ∷ []) $ fjoin ! $
       move ! (2 ∷ 0 ∷ []) $ fjoin ! $
-      owned ! D.the-row (Is D.the-row) (LL.makes D.the-type D′.the-plain 𝓤 H A) (headOf h) (head-vals h) is $ fjoin ! $ move ! (2 ∷ 1 ∷ []) $ join ! $ join ! $
-      frame ! $ done !
+      owned ! D.the-row (Is D.the-row) (LL.makes D.the-type D′.the-plain 𝓤 H A) (headOf h) (head-vals h) is $ fjoin ! $
+      move ! (2 ∷ 1 ∷ []) $ join ! $ join ! $ frame ! $ done !
 
   abbrev Answers : AddedHead → List ℕ → Type 0
   Answers r len = addedOf r len ≡ added false h (packet .now) (store .now) .answer
@@ -167,23 +169,27 @@ module _ {M : Type 1} (𝓤 : URA M) (H : Heap 𝓤) (A : Atoms 𝓤) (W : Given
   abbrev to-number : AddedHead → Number 𝓤 H A mem run .Ghost
   to-number r = ((tt, tt, tt, (0, (r .verdict, tt)), (vint w16 0 ∷ [], (verdict-val r ∷ [], tt))), tt)
 
-  goes-number : (r : AddedHead) → Is E.the-row (r .verdict) (verdict-val r ∷ []) → ent 𝓤 (sem 𝓤 H A ftrue) (Number 𝓤 H A mem run .pre (to-number r))
+  goes-number : (r : AddedHead) → Is E.the-row (r .verdict) (verdict-val r ∷ [])
+      → ent 𝓤 (sem 𝓤 H A ftrue) (Number 𝓤 H A mem run .pre (to-number r))
   goes-number r is =
-      qed W (‵ ftrue ∷ []) ∵ owned ! E.the-row (Is E.the-row) (EL.makes E.the-type E′.the-plain 𝓤 H A) (r .verdict) (verdict-val r ∷ []) is $ fjoin ! $
+      qed W (‵ ftrue ∷ []) ∵
+      owned ! E.the-row (Is E.the-row) (EL.makes E.the-type E′.the-plain 𝓤 H A) (r .verdict) (verdict-val r ∷ []) is $ fjoin ! $
       owned ! u16 (Is u16) (uint-makes 𝓤 H A W w16) 0 (vint w16 0 ∷ []) (refl, lit< tt) $ fjoin ! $ nothing ! $ join ! $ frame ! $ done !
 
   abbrev Numbers : AddedHead → ℤ → Type 0
   Numbers r m = m ≡ verdictNumber (pos 0) (r .verdict)
 
-  number-says : (r : AddedHead) (m : ℤ) → ent 𝓤 (ensured 𝓤 H A number.ended (number.clauses 𝓤 H A mem run) tt (0, (r .verdict, tt)) tt m) (fact 𝓤 (Numbers r m))
+  number-says : (r : AddedHead) (m : ℤ)
+      → ent 𝓤 (ensured 𝓤 H A number.ended (number.clauses 𝓤 H A mem run) tt (0, (r .verdict, tt)) tt m) (fact 𝓤 (Numbers r m))
   number-says r m = exE 𝓤 _ (λ ws. snd∗ 𝓤 (sem 𝓤 H A (lasts number.ended tt (0, (r .verdict, tt)) ws)) (fact 𝓤 (Numbers r m)))
 
-  walk : FmC 𝓤 H (W .laws) C → Triple 𝓤 (C #core) (Core 𝓤 H A mem run) → Triple 𝓤 (C #number) (Number 𝓤 H A mem run) → Room u8 (length (packet .now))
-      → Room u8 (length (store .now))
+  walk : FmC 𝓤 H (W .laws) C → Triple 𝓤 (C #core) (Core 𝓤 H A mem run) → Triple 𝓤 (C #number) (Number 𝓤 H A mem run)
+      → Room u8 (length (packet .now)) → Room u8 (length (store .now))
       → ent 𝓤 (onEntry 𝓤 H A f.signature (bound .0 .0) (bound .0 .1) (bound .0 .3) (bound .0 .4))
       (WpFn 𝓤 H C Λ code.function (vptr b o ∷ p ∷ s ∷ []) (walkOf 𝓤 H A f.ended stayed (f.clauses 𝓤 H A mem run) .post bound))
   walk fm known known′ room room′ =
-      qed W ((‵ (flft κ q) ⊛ tokens) ∷ ‵ (fsep (MutRef (named 0) κ T.the-row .own x (vptr b o ∷ [])) slices) ∷ []) ∵ split ! $ move ! (2 ∷ []) $ fsplit ! $
+      qed W ((‵ (flft κ q) ⊛ tokens) ∷ ‵ (fsep (MutRef (named 0) κ T.the-row .own x (vptr b o ∷ [])) slices) ∷ []) ∵
+      split ! $ move ! (2 ∷ []) $ fsplit ! $
       enter ! C Λ code.function (vptr b o ∷ p ∷ s ∷ []) _ $
       alloc1 ! (λ l₀. alloc1 ! (λ l₁. alloc1 ! (λ l₂. alloc1 ! (λ l₃. alloc1 ! (λ l₄. alloc1 ! (λ l₅. alloc1 ! (λ l₆. alloc1 ! (λ l₇.
       alloc1 ! (λ l₈. alloc1 ! (λ l₉. alloc1 ! (λ l₁₀. alloc1 ! (λ l₁₁. alloc0 ! $ params1 ! $
@@ -203,17 +209,19 @@ module _ {M : Type 1} (𝓤 : URA M) (H : Heap 𝓤) (A : Atoms 𝓤) (W : Given
       assigns ! (agg ! (and-then ! (local ! 6 refl) (and-then ! (load ! (from ! (fld ! refl (stop !))) (look-in ! 20 (sub ! 1 refl (whole !)))) (no-more !))))
       (here !) (init ! 4 refl (tt, (tt, (record { fits = room′ .0 }, tt)))) $
       lent-mut ! w16 48 3 6 refl b o (parts h) tt (h .len) refl (lengths-stand h g) (λ α δ.
-      -- the core. [the lengths; their token; what is kept; …; the open borrow; obs; auth; _11; …; to _1; …; room for _0; …; what the slices own; the tokens]
-      move ! (31 ∷ 32 ∷ []) $ join ! $ move ! (1 ∷ 2 ∷ 0 ∷ []) $ use3 W (raw (Core 𝓤 H A mem run .pre (to-core α δ))) (goes-core α δ (head-is h g)) $
+      -- the core
+      -- [the lengths; their token; what is kept; …; the open borrow; obs; auth; _11; …; to _1; …; room for _0; …; what the slices own; the tokens]
+      move ! (31 ∷ 32 ∷ []) $ join ! $ move ! (1 ∷ 2 ∷ 0 ∷ []) $
+      use3 W (raw (Core 𝓤 H A mem run .pre (to-core α δ))) (goes-core α δ (head-is h g)) $
       calls-at ! fm (Core 𝓤 H A mem run) known (to-core α δ)
       (and-then ! (local ! 20 refl) (and-then ! (local ! 10 refl)
       (and-then ! (local ! 24 refl) (and-then ! (false-lit !) (and-then ! (local ! 6 refl) (no-more !)))))) (λ w.
       use1 W (later (some (λ (r : AddedHead). ((‵ (flft (α ∷ []) fullShare) ⊛ tokens) ⊛ ‵ (O.the-row .own r (w ∷ [])))
-      ⊛ raw (ensured 𝓤 H A core.ended (core.clauses 𝓤 H A mem run) (α ∷ [], (κ₁, (κ₂, tt))) (headOf h, (lent δ, (packet, (false, (store, tt))))) tt r))))
+      ⊛ raw (ensured 𝓤 H A core.ended (core.clauses 𝓤 H A mem run) (to-core α δ .0 .0) (to-core α δ .0 .3) tt r))))
       (id⊢ 𝓤 _) $ await ! tt $ pick ! (λ r.
       split ! $ move ! (1 ∷ []) $ use1 W (some (λ (zs : Unit {0} × (List ℕ × (Unit {0} × (Unit {0} × (List ℕ × Unit {0}))))).
-      ‵ (lasts core.ended (α ∷ [], (κ₁, (κ₂, tt))) (headOf h, (lent δ, (packet, (false, (store, tt))))) zs)
-      ⊛ (raw (fact 𝓤 (Answers r (zs .1 .0))) ⊛ (raw (fact 𝓤 (Leaves (zs .1 .1 .1 .1 .0))) ⊛ raw (fact 𝓤 (r .count < 65536)))))) (id⊢ 𝓤 _) $ pick ! (λ zs.
+      ‵ (lasts core.ended (to-core α δ .0 .0) (to-core α δ .0 .3) zs) ⊛ (raw (fact 𝓤 (Answers r (zs .1 .0)))
+      ⊛ (raw (fact 𝓤 (Leaves (zs .1 .1 .1 .1 .0))) ⊛ raw (fact 𝓤 (r .count < 65536)))))) (id⊢ 𝓤 _) $ pick ! (λ zs.
       split ! $ move ! (1 ∷ []) $ split ! $ heard ! (Answers r (zs .1 .0)) (λ e. split ! $
       heard ! (Leaves (zs .1 .1 .1 .1 .0)) (λ e′. heard ! (r .count < 65536) (λ few.
       fsplit ! $ drop ! $ fsplit ! $ move ! (1 ∷ []) $ fsplit ! $ drop ! $ fsplit ! $ drop ! $ fsplit ! $ fsplit ! $ move ! (1 ∷ []) $ feqL ! (λ l.
@@ -225,7 +233,8 @@ module _ {M : Type 1} (𝓤 : URA M) (H : Heap 𝓤) (A : Atoms 𝓤) (W : Given
       -- the lengths come back, and the head is stored. [what the answer owns; the lengths' token; the tokens; the store's last list; …; the
       -- lengths' last list; what is kept; …; the open borrow; obs; auth; _11; …]
       move ! (1 ∷ 5 ∷ 6 ∷ 7 ∷ []) $ back-mut ! w16 48 3 6 refl b o (parts h) tt (zs .1 .0) (λ stand.
-      -- [the collector's cell; what the answer owns; the tokens; the store's last list; …; the open borrow; obs; auth; _11; …; to _1; …; room for _0; …]
+      -- [the collector's cell; what the answer owns; the tokens; the store's last list; …; the open borrow; obs; auth; _11; …; to _1; …; room
+      -- for _0; …]
       assigns ! (of-opd ! (load ! (from ! (fld ! {d = 2} refl (stop !))) (look-in ! 20 (sub ! 1 {d = 2} refl (whole !)))))
       (from ! (hop ! (look ! 28 refl) (to-toc !))) (store-in ! 0 (in-toc !) (O′.the-laws .1 .0 .lawful 𝓤 H A W .typed _ _ (c .1 .0) .0)) $
       assigns ! (un ! (load ! (from ! (fld ! {d = 8} refl (stop !))) (look-in ! 20 (sub ! 3 {d = 8} refl (whole !)))) (record { fits = few })) (here !)
@@ -233,7 +242,8 @@ module _ {M : Type 1} (𝓤 : URA M) (H : Heap 𝓤) (A : Atoms 𝓤) (W : Given
       assigns ! (of-opd ! (local ! 16 refl)) (from ! (hop ! (look ! 28 refl) (to-count !))) (store-in ! 0 (in-count !) (tt, record { fits = few })) $
       assigns ! (of-opd ! (load ! (from ! (fld ! {d = 4} refl (stop !))) (look-in ! 20 (sub ! 2 {d = 4} refl (whole !)))))
       (from ! (hop ! (look ! 28 refl) (to-size !))) (store-in ! 0 (in-size !) (O′.the-laws .1 .1 .0 .lawful 𝓤 H A W .typed _ _ (c .1 .1 .0) .0)) $
-      move ! (0 ∷ 5 ∷ 6 ∷ 7 ∷ []) $ closed ! tt T.the-type T′.the-laws T′.the-plain (addedOf r (zs .1 .0) .rp) b o (collector-is r w (zs .1 .0) is few stand) $
+      move ! (0 ∷ 5 ∷ 6 ∷ 7 ∷ []) $
+      closed ! tt T.the-type T′.the-laws T′.the-plain (addedOf r (zs .1 .0) .rp) b o (collector-is r w (zs .1 .0) is few stand) $
       -- the number. [the reference; its token; what the answer owns; the tokens; the store's last list; true; _11; …; to _1; …; room for _0; …]
       move ! (5 ∷ []) $ use1 W (raw (Number 𝓤 H A mem run .pre (to-number r))) (goes-number r (verdict-is r w is)) $
       calls-at ! fm (Number 𝓤 H A mem run) known′ (to-number r)
@@ -258,10 +268,12 @@ unfolding code.routine tablesOf
 aveluafi-repacketizer-cat-spec 𝓤 H 𝓜 𝓖 𝓡 =
     let W = givenOf 𝓤 H 𝓜 𝓖 in
     let 𝓣 = tablesOf 𝓤 H 𝓜 (tables 𝓤 H 𝓜 𝓡 code.env) in
-    let known = cited 𝓤 H (Core 𝓤 H (𝓖 .A) (𝓜 .mem) (𝓡 .run)) 𝓜 𝓡 code.env #core core-def.routine code.calls-repacketizer·add (core-thm.met 𝓤 H 𝓜 𝓖 𝓡) in
-    let known′ = cited 𝓤 H (Number 𝓤 H (𝓖 .A) (𝓜 .mem) (𝓡 .run)) 𝓜 𝓡 code.env #number number-def.routine code.calls-opus-defines·verdict-number
-    (number-thm.met 𝓤 H 𝓜 𝓖 𝓡) in
-    concluded 𝓤 H 𝓜 𝓖 𝓡 f.ended stayed (f.clauses 𝓤 H (𝓖 .A) (𝓜 .mem) (𝓡 .run)) code.env #lent code.function (code.unfolded 𝓤 H 𝓜 𝓡) (
+    let known = cited 𝓤 H (Core 𝓤 H (𝓖 .A) (𝓜 .mem) (𝓡 .run)) 𝓜 𝓡 code.env #core core-def.routine
+    code.calls-repacketizer·add (core-thm.met 𝓤 H 𝓜 𝓖 𝓡) in
+    let known′ = cited 𝓤 H (Number 𝓤 H (𝓖 .A) (𝓜 .mem) (𝓡 .run)) 𝓜 𝓡 code.env #number number-def.routine
+    code.calls-opus-defines·verdict-number (number-thm.met 𝓤 H 𝓜 𝓖 𝓡) in
+    let clauses = f.clauses 𝓤 H (𝓖 .A) (𝓜 .mem) (𝓡 .run) in
+    concluded 𝓤 H 𝓜 𝓖 𝓡 f.ended stayed clauses code.env #lent code.function (code.unfolded 𝓤 H 𝓜 𝓡) (
       goes-ref 𝓤 H (𝓖 .A) W 3 0 tt (plain (λ _. T.the-row)),
       (
         goes-dropped 𝓤 H (𝓖 .A) W 3 (shrSliceOf (1 ∷ []) tt (plain (λ _. u8))) yes (λ κs x f. refl),
@@ -271,6 +283,6 @@ aveluafi-repacketizer-cat-spec 𝓤 H 𝓜 𝓖 𝓡 =
     (λ κs. (ptr-vals, (slice-vals, (slice-vals, tt))))
     (λ κs. (mut-tells (named 0) (κs .0) T.the-row, (shr-slice-tells (named 1) (κs .1 .0) u8, (mut-slice-tells (named 2) (κs .1 .1 .0) u8, tt))))
     (λ κs qs _ a _ are. via 𝓤 _ (fst∗ 𝓤 _ (emp 𝓤))
-    (walk 𝓤 H (𝓖 .A) W (𝓜 .mem) (𝓡 .run) (𝓣 .C) (𝓣 .Λ) (κs .0) (κs .1 .0) (κs .1 .1 .0) (qs .0) (qs .1 .0) (qs .1 .1 .0) (a .0 .ptr .0) (a .0 .ptr .1)
-    (a .0 .name) (a .0 .now) (a .1 .0) (a .1 .1 .0)
+    (walk 𝓤 H (𝓖 .A) W (𝓜 .mem) (𝓡 .run) (𝓣 .C) (𝓣 .Λ) (κs .0) (κs .1 .0) (κs .1 .1 .0) (qs .0) (qs .1 .0) (qs .1 .1 .0)
+    (a .0 .ptr .0) (a .0 .ptr .1) (a .0 .name) (a .0 .now) (a .1 .0) (a .1 .1 .0)
     (fmOf 𝓤 H (W .laws) 𝓣) known known′ (are .1 .0 .0 .1) (are .1 .1 .0 .0 .1)))

@@ -19,7 +19,8 @@ use prog.Wp.{Heap, Calls, Loops, WpFn}
 use ghost.Atoms.{Atoms, sem}
 use contract.Monad.{Fun, fact}
 use contract.Running.{givenOf, tables, tablesOf}
-use types.Kit.{Given, ‵, raw, some, later, _⊛_, ⋆, _$_, _∵_, !, qed, move, keep, use1, use2, split, join, pick, fsplit, fjoin, suffices, frame, await, done}
+use types.Kit.{Given, ‵, raw, some, later, _⊛_, ⋆, _$_, _∵_, !, qed, move, keep}
+use types.Kit.{use1, use2, split, join, pick, fsplit, fjoin, suffices, frame, await, done}
 use types.Run.{look, init, and-then, no-more, assigns, land, returns, enter, alloc1, alloc0, params1, pass1, pass0, free0}
 use types.Part.{agg}
 use sound.WpLaws.{FmC, fmOf}
@@ -76,8 +77,8 @@ module _ {M : Type 1} (𝓤 : URA M) (H : Heap 𝓤) (A : Atoms 𝓤) (mem : Mem
       → ent 𝓤 (ensured 𝓤 H A core.ended (core.clauses 𝓤 H A mem run) (κ, tt) (headOf h, (lent b o δ h, tt)) tt r) (fact 𝓤 (Says h r))
   core-says κ b o δ h r = exE 𝓤 _ (λ ws. snd∗ 𝓤 (sem 𝓤 H A (lasts core.ended (κ, tt) (headOf h, (lent b o δ h, tt)) ws)) (fact 𝓤 (Says h r)))
 
-module _ {M : Type 1} (𝓤 : URA M) (H : Heap 𝓤) (A : Atoms 𝓤) (W : Given 𝓤 H A) (mem : Memory → SProp 𝓤) (run : Routine → Fun 𝓤) (C : Calls 𝓤 H) (Λ : Loops 𝓤 H)
-    (κ : Lft) (q : Share) (b o : ℕ) (γ : GName) (h : OpusRepacketizer) where
+module _ {M : Type 1} (𝓤 : URA M) (H : Heap 𝓤) (A : Atoms 𝓤) (W : Given 𝓤 H A) (mem : Memory → SProp 𝓤) (run : Routine → Fun 𝓤)
+    (C : Calls 𝓤 H) (Λ : Loops 𝓤 H) (κ : Lft) (q : Share) (b o : ℕ) (γ : GName) (h : OpusRepacketizer) where
   abbrev x : RefT OpusRepacketizer
   x = record { ptr = (b, o); name = γ; now = h }
 
@@ -102,10 +103,10 @@ module _ {M : Type 1} (𝓤 : URA M) (H : Heap 𝓤) (A : Atoms 𝓤) (W : Given
       → ent 𝓤 (onEntry 𝓤 H A f.signature (bound .0 .0) (bound .0 .1) (bound .0 .3) (bound .0 .4))
       (WpFn 𝓤 H C Λ code.function (vptr b o ∷ []) (walkOf 𝓤 H A f.ended stayed (f.clauses 𝓤 H A mem run) .post bound))
   walk fm known =
-      qed W ((‵ (flft κ q) ⊛ ‵ ftrue) ∷ ‵ (fsep (ShrRef (named 0) κ T.the-row .own x (vptr b o ∷ [])) ftrue) ∷ []) ∵ split ! $ move ! (2 ∷ []) $ fsplit ! $
-      enter ! C Λ code.function (vptr b o ∷ []) _ $
-      alloc1 ! (λ l₀. alloc1 ! (λ l₁. alloc1 ! (λ l₂. alloc1 ! (λ l₃. alloc1 ! (λ l₄. alloc1 ! (λ l₅. alloc1 ! (λ l₆. alloc0 ! $ params1 ! $
-      pass1 ! (init ! 10 refl (tt, tt)) $ pass0 ! $
+      qed W ((‵ (flft κ q) ⊛ ‵ ftrue) ∷ ‵ (fsep (ShrRef (named 0) κ T.the-row .own x (vptr b o ∷ [])) ftrue) ∷ []) ∵
+      split ! $ move ! (2 ∷ []) $ fsplit ! $ enter ! C Λ code.function (vptr b o ∷ []) _ $
+      alloc1 ! (λ l₀. alloc1 ! (λ l₁. alloc1 ! (λ l₂. alloc1 ! (λ l₃. alloc1 ! (λ l₄. alloc1 ! (λ l₅. alloc1 ! (λ l₆.
+      alloc0 ! $ params1 ! $ pass1 ! (init ! 10 refl (tt, tt)) $ pass0 ! $
       -- [_6; …; to _1; …; room for _0; …; the reference; true; the token; true]
       move ! (14 ∷ 16 ∷ []) $ looked ! tt T.the-type T′.the-laws T′.the-copy h γ b o (λ q′ g.
       -- [a share of the collector's cell; the open borrow; _6; …; to _1; …; room for _0; …; true; true]
@@ -121,8 +122,8 @@ module _ {M : Type 1} (𝓤 : URA M) (H : Heap 𝓤) (A : Atoms 𝓤) (W : Given
       -- [what the core asks; what the lender keeps; …; the open borrow; _6; …; to _1; …; room for _0; …; true; true]
       calls-at ! fm (Core 𝓤 H A mem run) known (to-core α δ) (and-then ! (local ! 12 refl) (and-then ! (local ! 4 refl) (no-more !))) (λ w.
       use1 W (later (some (λ (r : ℤ). ((‵ (flft (α ∷ []) fullShare) ⊛ ‵ ftrue) ⊛ ‵ (i32 .own r (w ∷ [])))
-      ⊛ raw (ensured 𝓤 H A core.ended (core.clauses 𝓤 H A mem run) (α ∷ [], tt) (headOf h, (lent b o δ h, tt)) tt r)))) (id⊢ 𝓤 _) $ await ! tt $
-      pick ! (λ r.
+      ⊛ raw (ensured 𝓤 H A core.ended (core.clauses 𝓤 H A mem run) (α ∷ [], tt) (headOf h, (lent b o δ h, tt)) tt r)))) (id⊢ 𝓤 _) $
+      await ! tt $ pick ! (λ r.
       split ! $ move ! (1 ∷ []) $ use1 W (raw (fact 𝓤 (Says 𝓤 H A mem run h r))) (core-says 𝓤 H A mem run (α ∷ []) b o δ h r) $
       heard ! (Says 𝓤 H A mem run h r) (λ e. split ! $ move ! (1 ∷ []) $
       peeks ! i32 (Is i32) (shows 𝓤 H A i32) r (w ∷ []) (λ is.
@@ -141,9 +142,12 @@ unfolding code.routine tablesOf
 aveluafi-repacketizer-get-nb-frames-spec 𝓤 H 𝓜 𝓖 𝓡 =
     let W = givenOf 𝓤 H 𝓜 𝓖 in
     let 𝓣 = tablesOf 𝓤 H 𝓜 (tables 𝓤 H 𝓜 𝓡 code.env) in
-    let known = cited 𝓤 H (Core 𝓤 H (𝓖 .A) (𝓜 .mem) (𝓡 .run)) 𝓜 𝓡 code.env #core core-def.routine code.calls-repacketizer·nb-frames (core-thm.met 𝓤 H 𝓜 𝓖 𝓡) in
-    concluded 𝓤 H 𝓜 𝓖 𝓡 f.ended stayed (f.clauses 𝓤 H (𝓖 .A) (𝓜 .mem) (𝓡 .run)) code.env #lent code.function (code.unfolded 𝓤 H 𝓜 𝓡)
+    let known = cited 𝓤 H (Core 𝓤 H (𝓖 .A) (𝓜 .mem) (𝓡 .run)) 𝓜 𝓡 code.env #core core-def.routine
+    code.calls-repacketizer·nb-frames (core-thm.met 𝓤 H 𝓜 𝓖 𝓡) in
+    let clauses = f.clauses 𝓤 H (𝓖 .A) (𝓜 .mem) (𝓡 .run) in
+    concluded 𝓤 H 𝓜 𝓖 𝓡 f.ended stayed clauses code.env #lent code.function (code.unfolded 𝓤 H 𝓜 𝓡)
     (goes-dropped 𝓤 H (𝓖 .A) W 1 (shrRefTo (0 ∷ []) tt (plain (λ _. T.the-row))) yes (λ κs x f. refl), tt)
     (λ κs. (ptr-vals, tt)) (λ κs. (shr-tells (named 0) (κs .0) T.the-row, tt))
     (λ κs qs _ a _ are. via 𝓤 _ (fst∗ 𝓤 _ (emp 𝓤))
-    (walk 𝓤 H (𝓖 .A) W (𝓜 .mem) (𝓡 .run) (𝓣 .C) (𝓣 .Λ) (κs .0) (qs .0) (a .0 .ptr .0) (a .0 .ptr .1) (a .0 .name) (a .0 .now) (fmOf 𝓤 H (W .laws) 𝓣) known))
+    (walk 𝓤 H (𝓖 .A) W (𝓜 .mem) (𝓡 .run) (𝓣 .C) (𝓣 .Λ) (κs .0) (qs .0)
+    (a .0 .ptr .0) (a .0 .ptr .1) (a .0 .name) (a .0 .now) (fmOf 𝓤 H (W .laws) 𝓣) known))

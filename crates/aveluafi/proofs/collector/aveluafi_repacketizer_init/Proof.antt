@@ -59,8 +59,8 @@ empty-is : Is T.the-row empty (vals empty)
 empty-is = LL.owes T.the-type T′.the-laws empty
     ((refl, lit< tt), ((refl, lit< tt), (LL.owes S.the-type S′.the-laws (record { 0 = 0 }) ((refl, lit< tt), tt), (zeros, tt))))
 
-module _ {M : Type 1} (𝓤 : URA M) (H : Heap 𝓤) (A : Atoms 𝓤) (W : Given 𝓤 H A) (mem : Memory → SProp 𝓤) (run : Routine → Fun 𝓤) (C : Calls 𝓤 H) (Λ : Loops 𝓤 H)
-    (κ : Lft) (q : Share) (b o : ℕ) (γ : GName) (h : OpusRepacketizer) where
+module _ {M : Type 1} (𝓤 : URA M) (H : Heap 𝓤) (A : Atoms 𝓤) (W : Given 𝓤 H A) (mem : Memory → SProp 𝓤) (run : Routine → Fun 𝓤)
+    (C : Calls 𝓤 H) (Λ : Loops 𝓤 H) (κ : Lft) (q : Share) (b o : ℕ) (γ : GName) (h : OpusRepacketizer) where
   abbrev x : RefT OpusRepacketizer
   x = record { ptr = (b, o); name = γ; now = h }
 
@@ -70,8 +70,8 @@ module _ {M : Type 1} (𝓤 : URA M) (H : Heap 𝓤) (A : Atoms 𝓤) (W : Given
   walk : ent 𝓤 (onEntry 𝓤 H A f.signature (κ, tt) (q, tt) (x, tt) (vptr b o ∷ [], tt))
       (WpFn 𝓤 H C Λ code.function (vptr b o ∷ []) (walkOf 𝓤 H A f.ended stayed (f.clauses 𝓤 H A mem run) .post bound))
   walk =
-      qed W ((‵ (flft κ q) ⊛ ‵ ftrue) ∷ ‵ (owns (MutRef (named 0) κ T.the-row ∷ []) (x, tt) (vptr b o ∷ [], tt)) ∷ []) ∵ split ! $ move ! (2 ∷ []) $ fsplit ! $
-      enter ! C Λ code.function (vptr b o ∷ []) _ $
+      qed W ((‵ (flft κ q) ⊛ ‵ ftrue) ∷ ‵ (owns (MutRef (named 0) κ T.the-row ∷ []) (x, tt) (vptr b o ∷ [], tt)) ∷ []) ∵
+      split ! $ move ! (2 ∷ []) $ fsplit ! $ enter ! C Λ code.function (vptr b o ∷ []) _ $
       alloc1 ! (λ l₀. alloc1 ! (λ l₁. alloc0 ! $ params1 ! $ pass1 ! (init ! 0 refl (tt, tt)) $ pass0 ! $
       -- [_1; …; room for _0; …; the reference; true; the token; true]
       move ! (4 ∷ 6 ∷ []) $ opened ! tt T.the-type T′.the-laws h γ b o (λ _.
@@ -87,15 +87,16 @@ module _ {M : Type 1} (𝓤 : URA M) (H : Heap 𝓤) (A : Atoms 𝓤) (W : Given
       -- [the reference; the token; _1; …; _0; …]
       returns ! (look ! 4 refl) $ freed ! 4 refl refl $ freed ! 2 refl refl $ free0 ! $ keep ! (0 ∷ 1 ∷ []) $
       suffices ! _ (ends-at 𝓤 H A f.ended stayed (f.clauses 𝓤 H A mem run) W bound vunit tt (empty, tt) (tt, tt)) $ says ! refl $
-      nothing ! $ move ! (2 ∷ 0 ∷ []) $ join ! $ frame ! $ nothing ! $ move ! (1 ∷ 0 ∷ []) $ fjoin ! $ feqI ! (List Val) (vunit ∷ []) (vunit ∷ []) refl $
-      move ! (1 ∷ 0 ∷ []) $ done !)))
+      nothing ! $ move ! (2 ∷ 0 ∷ []) $ join ! $ frame ! $ nothing ! $ move ! (1 ∷ 0 ∷ []) $ fjoin ! $
+      feqI ! (List Val) (vunit ∷ []) (vunit ∷ []) refl $ move ! (1 ∷ 0 ∷ []) $ done !)))
 
 pub aveluafi-repacketizer-init-spec : {M : Type 1} → stated.statement M
 unfolding code.routine tablesOf
 aveluafi-repacketizer-init-spec 𝓤 H 𝓜 𝓖 𝓡 =
     let W = givenOf 𝓤 H 𝓜 𝓖 in
     let 𝓣 = tablesOf 𝓤 H 𝓜 (tables 𝓤 H 𝓜 𝓡 code.env) in
-    concluded 𝓤 H 𝓜 𝓖 𝓡 f.ended stayed (f.clauses 𝓤 H (𝓖 .A) (𝓜 .mem) (𝓡 .run)) code.env #lent code.function (code.unfolded 𝓤 H 𝓜 𝓡)
+    let clauses = f.clauses 𝓤 H (𝓖 .A) (𝓜 .mem) (𝓡 .run) in
+    concluded 𝓤 H 𝓜 𝓖 𝓡 f.ended stayed clauses code.env #lent code.function (code.unfolded 𝓤 H 𝓜 𝓡)
     (goes-ref 𝓤 H (𝓖 .A) W 1 0 tt (plain (λ _. T.the-row)), tt) (λ κs. (ptr-vals, tt)) (λ κs. (mut-tells (named 0) (κs .0) T.the-row, tt))
     (λ κs qs _ a _ _. via 𝓤 _ (fst∗ 𝓤 _ (emp 𝓤))
     (walk 𝓤 H (𝓖 .A) W (𝓜 .mem) (𝓡 .run) (𝓣 .C) (𝓣 .Λ) (κs .0) (qs .0) (a .0 .ptr .0) (a .0 .ptr .1) (a .0 .name) (a .0 .now)))

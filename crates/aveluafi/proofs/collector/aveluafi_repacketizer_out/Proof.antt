@@ -70,8 +70,9 @@ stayed = (
 abbrev Core : {M : Type 1} (𝓤 : URA M) (H : Heap 𝓤) (A : Atoms 𝓤) (mem : Memory → SProp 𝓤) (run : Routine → Fun 𝓤) → Contract 𝓤
 Core 𝓤 H A mem run = tripleOf 𝓤 H A core.signature (core.spec 𝓤 H A mem run)
 
-module _ {M : Type 1} (𝓤 : URA M) (H : Heap 𝓤) (A : Atoms 𝓤) (W : Given 𝓤 H A) (mem : Memory → SProp 𝓤) (run : Routine → Fun 𝓤) (C : Calls 𝓤 H) (Λ : Loops 𝓤 H)
-    (κ κ₁ κ₂ : Lft) (q q₁ q₂ : Share) (b o : ℕ) (γ : GName) (h : OpusRepacketizer) (store dst : RefT (List ℕ)) where
+module _ {M : Type 1} (𝓤 : URA M) (H : Heap 𝓤) (A : Atoms 𝓤) (W : Given 𝓤 H A) (mem : Memory → SProp 𝓤) (run : Routine → Fun 𝓤)
+    (C : Calls 𝓤 H) (Λ : Loops 𝓤 H) (κ κ₁ κ₂ : Lft) (q q₁ q₂ : Share) (b o : ℕ) (γ : GName)
+    (h : OpusRepacketizer) (store dst : RefT (List ℕ)) where
   abbrev x : RefT OpusRepacketizer
   x = record { ptr = (b, o); name = γ; now = h }
 
@@ -128,8 +129,8 @@ module _ {M : Type 1} (𝓤 : URA M) (H : Heap 𝓤) (A : Atoms 𝓤) (W : Given
   walk fm known room room′ =
       qed W ((‵ (flft κ q) ⊛ tokens) ∷ ‵ (fsep own-ref others) ∷ []) ∵ split ! $ move ! (2 ∷ []) $ fsplit ! $
       enter ! C Λ code.function (vptr b o ∷ s ∷ d ∷ []) _ $
-      alloc1 ! (λ l₀. alloc1 ! (λ l₁. alloc1 ! (λ l₂. alloc1 ! (λ l₃. alloc1 ! (λ l₄. alloc1 ! (λ l₅. alloc1 ! (λ l₆. alloc1 ! (λ l₇. alloc0 ! $ params1 ! $
-      pass1 ! (init ! 12 refl (tt, tt)) $ pass1 ! (init ! 10 refl (tt, (tt, (record { fits = room .0 }, tt)))) $
+      alloc1 ! (λ l₀. alloc1 ! (λ l₁. alloc1 ! (λ l₂. alloc1 ! (λ l₃. alloc1 ! (λ l₄. alloc1 ! (λ l₅. alloc1 ! (λ l₆. alloc1 ! (λ l₇.
+      alloc0 ! $ params1 ! $ pass1 ! (init ! 12 refl (tt, tt)) $ pass1 ! (init ! 10 refl (tt, (tt, (record { fits = room .0 }, tt)))) $
       pass1 ! (init ! 8 refl (tt, (tt, (record { fits = room′ .0 }, tt)))) $ pass0 ! $
       -- [_7; …; to _1; …; room for _0; …; the reference; what the others own; its token; their tokens]
       move ! (16 ∷ []) $ use1 W (‵ own-ref ⊛ ‵ own-ref) (shr-copy 𝓤 H A W (named 0) κ T.the-row .twice x (vptr b o ∷ [])) $ split ! $
@@ -152,11 +153,11 @@ module _ {M : Type 1} (𝓤 : URA M) (H : Heap 𝓤) (A : Atoms 𝓤) (W : Given
       (and-then ! (lit ! tt) (and-then ! (local ! 5 refl)
       (and-then ! (local ! 1 refl) (and-then ! (false-lit !) (and-then ! (false-lit !) (no-more !)))))))) (λ w.
       use1 W (later (some (λ (r : ℤ). ((‵ (flft κ q) ⊛ tokens) ⊛ ‵ (i32 .own r (w ∷ [])))
-      ⊛ raw (ensured 𝓤 H A core.ended (core.clauses 𝓤 H A mem run) (κ, (κ₁, (κ₂, tt)))
-      (x, (store, (pos 0, (pos (h .«nb_frames»), (dst, (false, (false, tt))))))) tt r)))) (id⊢ 𝓤 _) $ await ! tt $ pick ! (λ r.
-      split ! $ move ! (1 ∷ []) $ use1 W (some (λ (zs : Unit {0} × (Unit {0} × (Unit {0} × (Unit {0} × (List ℕ × (Unit {0} × (Unit {0} × Unit {0}))))))).
-      ‵ (lasts core.ended (κ, (κ₁, (κ₂, tt))) (x, (store, (pos 0, (pos (h .«nb_frames»), (dst, (false, (false, tt))))))) zs)
-      ⊛ raw (fact 𝓤 (Says r (zs .1 .1 .1 .1 .0))))) (id⊢ 𝓤 _) $ pick ! (λ zs.
+      ⊛ raw (ensured 𝓤 H A core.ended (core.clauses 𝓤 H A mem run) (to-core .0 .0) (to-core .0 .3) tt r))))
+      (id⊢ 𝓤 _) $ await ! tt $ pick ! (λ r.
+      split ! $ move ! (1 ∷ []) $
+      use1 W (some (λ (zs : Unit {0} × (Unit {0} × (Unit {0} × (Unit {0} × (List ℕ × (Unit {0} × (Unit {0} × Unit {0}))))))).
+      ‵ (lasts core.ended (to-core .0 .0) (to-core .0 .3) zs) ⊛ raw (fact 𝓤 (Says r (zs .1 .1 .1 .1 .0))))) (id⊢ 𝓤 _) $ pick ! (λ zs.
       split ! $ move ! (1 ∷ []) $ heard ! (Says r (zs .1 .1 .1 .1 .0)) (λ e. fsplit ! $ drop ! $ fsplit ! $ drop ! $ fsplit ! $ drop ! $ fsplit ! $ drop ! $
       fsplit ! $ fsplit ! $ move ! (1 ∷ []) $ feqL ! (λ l.
       move ! (2 ∷ []) $ split ! $ move ! (1 ∷ []) $ peeks ! i32 (Is i32) (shows 𝓤 H A i32) r (w ∷ []) (λ is.
@@ -164,8 +165,8 @@ module _ {M : Type 1} (𝓤 : URA M) (H : Heap 𝓤) (A : Atoms 𝓤) (W : Given
       land ! (here !) (init ! 18 refl (sint-lawful 𝓤 H A W w32 .typed r _ is .0)) $
       returns ! (look ! 18 refl) $ freed ! 18 refl refl $ freed ! 16 refl refl $ freed ! 14 refl refl $ freed ! 12 refl refl $ freed ! 10 refl refl $
       freed ! 8 refl refl $ freed ! 6 refl refl $ freed ! 4 refl refl $ free0 ! $ keep ! (0 ∷ 1 ∷ 2 ∷ []) $
-      suffices ! _ (ends-at 𝓤 H A f.ended stayed (f.clauses 𝓤 H A mem run) W bound w r (tt, (tt, (zs .1 .1 .1 .1 .0, tt))) (tt, (tt, (l, tt)))) $ says ! e $
-      move ! (1 ∷ []) $ frame ! $ nothing ! $ move ! (2 ∷ 0 ∷ []) $ fjoin ! $ nothing ! $ fjoin ! $ nothing ! $ fjoin ! $ done !)))))))))))))))
+      suffices ! _ (ends-at 𝓤 H A f.ended stayed (f.clauses 𝓤 H A mem run) W bound w r (tt, (tt, (zs .1 .1 .1 .1 .0, tt))) (tt, (tt, (l, tt)))) $
+      says ! e $ move ! (1 ∷ []) $ frame ! $ nothing ! $ move ! (2 ∷ 0 ∷ []) $ fjoin ! $ nothing ! $ fjoin ! $ nothing ! $ fjoin ! $ done !)))))))))))))))
 
 pub aveluafi-repacketizer-out-spec : {M : Type 1} → stated.statement M
 unfolding code.routine tablesOf
@@ -174,7 +175,8 @@ aveluafi-repacketizer-out-spec 𝓤 H 𝓜 𝓖 𝓡 =
     let 𝓣 = tablesOf 𝓤 H 𝓜 (tables 𝓤 H 𝓜 𝓡 code.env) in
     let known = cited 𝓤 H (Core 𝓤 H (𝓖 .A) (𝓜 .mem) (𝓡 .run)) 𝓜 𝓡 code.env #core core-def.routine
     code.calls-aveluafi·collector·aveluafi-repacketizer-out-range-impl (core-thm.met 𝓤 H 𝓜 𝓖 𝓡) in
-    concluded 𝓤 H 𝓜 𝓖 𝓡 f.ended stayed (f.clauses 𝓤 H (𝓖 .A) (𝓜 .mem) (𝓡 .run)) code.env #lent code.function (code.unfolded 𝓤 H 𝓜 𝓡) (
+    let clauses = f.clauses 𝓤 H (𝓖 .A) (𝓜 .mem) (𝓡 .run) in
+    concluded 𝓤 H 𝓜 𝓖 𝓡 f.ended stayed clauses code.env #lent code.function (code.unfolded 𝓤 H 𝓜 𝓡) (
       goes-dropped 𝓤 H (𝓖 .A) W 3 (shrRefTo (0 ∷ []) tt (plain (λ _. T.the-row))) yes (λ κs x f. refl),
       (
         goes-dropped 𝓤 H (𝓖 .A) W 3 (shrSliceOf (1 ∷ []) tt (plain (λ _. u8))) yes (λ κs x f. refl),
@@ -184,6 +186,6 @@ aveluafi-repacketizer-out-spec 𝓤 H 𝓜 𝓖 𝓡 =
     (λ κs. (ptr-vals, (slice-vals, (slice-vals, tt))))
     (λ κs. (shr-tells (named 0) (κs .0) T.the-row, (shr-slice-tells (named 1) (κs .1 .0) u8, (mut-slice-tells (named 2) (κs .1 .1 .0) u8, tt))))
     (λ κs qs _ a _ are. via 𝓤 _ (fst∗ 𝓤 _ (emp 𝓤))
-    (walk 𝓤 H (𝓖 .A) W (𝓜 .mem) (𝓡 .run) (𝓣 .C) (𝓣 .Λ) (κs .0) (κs .1 .0) (κs .1 .1 .0) (qs .0) (qs .1 .0) (qs .1 .1 .0) (a .0 .ptr .0) (a .0 .ptr .1)
-    (a .0 .name) (a .0 .now) (a .1 .0) (a .1 .1 .0)
+    (walk 𝓤 H (𝓖 .A) W (𝓜 .mem) (𝓡 .run) (𝓣 .C) (𝓣 .Λ) (κs .0) (κs .1 .0) (κs .1 .1 .0) (qs .0) (qs .1 .0) (qs .1 .1 .0)
+    (a .0 .ptr .0) (a .0 .ptr .1) (a .0 .name) (a .0 .now) (a .1 .0) (a .1 .1 .0)
     (fmOf 𝓤 H (W .laws) 𝓣) known (are .1 .0 .0 .1) (are .1 .1 .0 .0 .1)))

@@ -83,8 +83,9 @@ stayed = (
 abbrev Core : {M : Type 1} (𝓤 : URA M) (H : Heap 𝓤) (A : Atoms 𝓤) (mem : Memory → SProp 𝓤) (run : Routine → Fun 𝓤) → Contract 𝓤
 Core 𝓤 H A mem run = tripleOf 𝓤 H A core.signature (core.spec 𝓤 H A mem run)
 
-module _ {M : Type 1} (𝓤 : URA M) (H : Heap 𝓤) (A : Atoms 𝓤) (W : Given 𝓤 H A) (mem : Memory → SProp 𝓤) (run : Routine → Fun 𝓤) (C : Calls 𝓤 H) (Λ : Loops 𝓤 H)
-    (κ κ₁ κ₂ : Lft) (q q₁ q₂ : Share) (b o : ℕ) (γ : GName) (h : OpusRepacketizer) (store dst : RefT (List ℕ)) (begin end : ℤ) (sd pad : Bool) where
+module _ {M : Type 1} (𝓤 : URA M) (H : Heap 𝓤) (A : Atoms 𝓤) (W : Given 𝓤 H A) (mem : Memory → SProp 𝓤) (run : Routine → Fun 𝓤)
+    (C : Calls 𝓤 H) (Λ : Loops 𝓤 H) (κ κ₁ κ₂ : Lft) (q q₁ q₂ : Share) (b o : ℕ) (γ : GName)
+    (h : OpusRepacketizer) (store dst : RefT (List ℕ)) (begin end : ℤ) (sd pad : Bool) where
   abbrev x : RefT OpusRepacketizer
   x = record { ptr = (b, o); name = γ; now = h }
 
@@ -95,13 +96,21 @@ module _ {M : Type 1} (𝓤 : URA M) (H : Heap 𝓤) (A : Atoms 𝓤) (W : Given
   abbrev d : Val
   d = sliceVal (dst .ptr) (length (dst .now))
 
+  -- the machine values of the ends of the range
+  abbrev b₀ : Val
+  b₀ = vint w32 (ofZ w32 begin)
+
+  abbrev e₀ : Val
+  e₀ = vint w32 (ofZ w32 end)
+
   -- the tokens of the two slices, and what the parameters behind the collector own
   abbrev tokens : Item 𝓤
   tokens = ‵ (flft κ₁ q₁) ⊛ ‵ (flft κ₂ q₂) ⊛ ‵ ftrue
 
   abbrev others : Fml
-  others = owns (ShrSlice (named 1) κ₁ u8 ∷ i32 ∷ i32 ∷ MutSlice (named 2) κ₂ u8 ∷ bool ∷ bool ∷ []) (store, (begin, (end, (dst, (sd, (pad, tt))))))
-      (s ∷ [], (vint w32 (ofZ w32 begin) ∷ [], (vint w32 (ofZ w32 end) ∷ [], (d ∷ [], (vbool sd ∷ [], (vbool pad ∷ [], tt))))))
+  others = owns (ShrSlice (named 1) κ₁ u8 ∷ i32 ∷ i32 ∷ MutSlice (named 2) κ₂ u8 ∷ bool ∷ bool ∷ [])
+      (store, (begin, (end, (dst, (sd, (pad, tt))))))
+      (s ∷ [], (b₀ ∷ [], (e₀ ∷ [], (d ∷ [], (vbool sd ∷ [], (vbool pad ∷ [], tt))))))
 
   abbrev bound : walkOf 𝓤 H A f.ended stayed (f.clauses 𝓤 H A mem run) .Ghost
   bound = (
@@ -110,7 +119,7 @@ module _ {M : Type 1} (𝓤 : URA M) (H : Heap 𝓤) (A : Atoms 𝓤) (W : Given
       (q, (q₁, (q₂, tt))),
       tt,
       (x, (store, (begin, (end, (dst, (sd, (pad, tt))))))),
-      (vptr b o ∷ [], (s ∷ [], (vint w32 (ofZ w32 begin) ∷ [], (vint w32 (ofZ w32 end) ∷ [], (d ∷ [], (vbool sd ∷ [], (vbool pad ∷ [], tt))))))),
+      (vptr b o ∷ [], (s ∷ [], (b₀ ∷ [], (e₀ ∷ [], (d ∷ [], (vbool sd ∷ [], (vbool pad ∷ [], tt))))))),
     ),
     tt,
   )
@@ -136,7 +145,7 @@ module _ {M : Type 1} (𝓤 : URA M) (H : Heap 𝓤) (A : Atoms 𝓤) (W : Given
           vptr b (o + 6) ∷ [],
           (
             s ∷ [],
-            (vint w32 (ofZ w32 begin) ∷ [], (vint w32 (ofZ w32 end) ∷ [], (d ∷ [], (vbool sd ∷ [], (vbool pad ∷ [], tt))))),
+            (b₀ ∷ [], (e₀ ∷ [], (d ∷ [], (vbool sd ∷ [], (vbool pad ∷ [], tt))))),
           ),
         ),
       ),
@@ -145,11 +154,13 @@ module _ {M : Type 1} (𝓤 : URA M) (H : Heap 𝓤) (A : Atoms 𝓤) (W : Given
   )
 
   goes-core : (α : ℕ) (δ : GName) → Is D.the-row (headOf h) (head-vals h)
-      → ent 𝓤 (⋆ 𝓤 H A (‵ (own-lent α δ) ∷ ‵ (flft (α ∷ []) fullShare) ∷ (‵ others ⊛ tokens) ∷ [])) (Core 𝓤 H A mem run .pre (to-core α δ))
+      → ent 𝓤 (⋆ 𝓤 H A (‵ (own-lent α δ) ∷ ‵ (flft (α ∷ []) fullShare) ∷ (‵ others ⊛ tokens) ∷ []))
+      (Core 𝓤 H A mem run .pre (to-core α δ))
   goes-core α δ is =
-      qed W (‵ (own-lent α δ) ∷ ‵ (flft (α ∷ []) fullShare) ∷ (‵ others ⊛ tokens) ∷ []) ∵ move ! (2 ∷ []) $ split ! $ move ! (2 ∷ 0 ∷ []) $ fjoin ! $
-      owned ! D.the-row (Is D.the-row) (LL.makes D.the-type D′.the-plain 𝓤 H A) (headOf h) (head-vals h) is $ fjoin ! $ move ! (2 ∷ 1 ∷ []) $ join ! $ join ! $
-      frame ! $ done !
+      qed W (‵ (own-lent α δ) ∷ ‵ (flft (α ∷ []) fullShare) ∷ (‵ others ⊛ tokens) ∷ []) ∵
+      move ! (2 ∷ []) $ split ! $ move ! (2 ∷ 0 ∷ []) $ fjoin ! $
+      owned ! D.the-row (Is D.the-row) (LL.makes D.the-type D′.the-plain 𝓤 H A) (headOf h) (head-vals h) is $ fjoin ! $
+      move ! (2 ∷ 1 ∷ []) $ join ! $ join ! $ frame ! $ done !
 
   abbrev Answers : ℤ → Type 0
   Answers r = r ≡ outRange sd pad h (store .now) begin end (dst .now) .number
@@ -158,19 +169,22 @@ module _ {M : Type 1} (𝓤 : URA M) (H : Heap 𝓤) (A : Atoms 𝓤) (W : Given
   Leaves zs = zs ≡ outRange sd pad h (store .now) begin end (dst .now) .bytes
 
   walk : FmC 𝓤 H (W .laws) C → Triple 𝓤 (C #core) (Core 𝓤 H A mem run) → Room u8 (length (store .now)) → Room u8 (length (dst .now))
-      → Is i32 begin (vint w32 (ofZ w32 begin) ∷ []) → Is i32 end (vint w32 (ofZ w32 end) ∷ []) → Is bool sd (vbool sd ∷ []) → Is bool pad (vbool pad ∷ [])
+      → Is i32 begin (b₀ ∷ []) → Is i32 end (e₀ ∷ [])
+      → Is bool sd (vbool sd ∷ []) → Is bool pad (vbool pad ∷ [])
       → ent 𝓤 (onEntry 𝓤 H A f.signature (bound .0 .0) (bound .0 .1) (bound .0 .3) (bound .0 .4))
-      (WpFn 𝓤 H C Λ code.function (vptr b o ∷ s ∷ vint w32 (ofZ w32 begin) ∷ vint w32 (ofZ w32 end) ∷ d ∷ vbool sd ∷ vbool pad ∷ [])
+      (WpFn 𝓤 H C Λ code.function (vptr b o ∷ s ∷ b₀ ∷ e₀ ∷ d ∷ vbool sd ∷ vbool pad ∷ [])
       (walkOf 𝓤 H A f.ended stayed (f.clauses 𝓤 H A mem run) .post bound))
   walk fm known room room′ is-begin is-end is-sd is-pad =
-      qed W ((‵ (flft κ q) ⊛ tokens) ∷ ‵ (fsep (ShrRef (named 0) κ T.the-row .own x (vptr b o ∷ [])) others) ∷ []) ∵ split ! $ move ! (2 ∷ []) $ fsplit ! $
-      enter ! C Λ code.function (vptr b o ∷ s ∷ vint w32 (ofZ w32 begin) ∷ vint w32 (ofZ w32 end) ∷ d ∷ vbool sd ∷ vbool pad ∷ []) _ $
+      qed W ((‵ (flft κ q) ⊛ tokens) ∷ ‵ (fsep (ShrRef (named 0) κ T.the-row .own x (vptr b o ∷ [])) others) ∷ []) ∵
+      split ! $ move ! (2 ∷ []) $ fsplit ! $
+      enter ! C Λ code.function (vptr b o ∷ s ∷ b₀ ∷ e₀ ∷ d ∷ vbool sd ∷ vbool pad ∷ []) _ $
       alloc1 ! (λ l₀. alloc1 ! (λ l₁. alloc1 ! (λ l₂. alloc1 ! (λ l₃. alloc1 ! (λ l₄. alloc1 ! (λ l₅. alloc1 ! (λ l₆. alloc1 ! (λ l₇.
-      alloc1 ! (λ l₈. alloc1 ! (λ l₉. alloc1 ! (λ l₁₀. alloc1 ! (λ l₁₁. alloc1 ! (λ l₁₂. alloc1 ! (λ l₁₃. alloc1 ! (λ l₁₄. alloc0 ! $ params1 ! $
-      pass1 ! (init ! 26 refl (tt, tt)) $ pass1 ! (init ! 24 refl (tt, (tt, (record { fits = room .0 }, tt)))) $
+      alloc1 ! (λ l₈. alloc1 ! (λ l₉. alloc1 ! (λ l₁₀. alloc1 ! (λ l₁₁. alloc1 ! (λ l₁₂. alloc1 ! (λ l₁₃. alloc1 ! (λ l₁₄.
+      alloc0 ! $ params1 ! $ pass1 ! (init ! 26 refl (tt, tt)) $ pass1 ! (init ! 24 refl (tt, (tt, (record { fits = room .0 }, tt)))) $
       pass1 ! (init ! 22 refl (sint-lawful 𝓤 H A W w32 .typed begin _ is-begin .0)) $
       pass1 ! (init ! 20 refl (sint-lawful 𝓤 H A W w32 .typed end _ is-end .0)) $ pass1 ! (init ! 18 refl (tt, (tt, (record { fits = room′ .0 }, tt)))) $
-      pass1 ! (init ! 16 refl (bool-lawful 𝓤 H A W .typed sd _ is-sd .0)) $ pass1 ! (init ! 14 refl (bool-lawful 𝓤 H A W .typed pad _ is-pad .0)) $ pass0 ! $
+      pass1 ! (init ! 16 refl (bool-lawful 𝓤 H A W .typed sd _ is-sd .0)) $
+      pass1 ! (init ! 14 refl (bool-lawful 𝓤 H A W .typed pad _ is-pad .0)) $ pass0 ! $
       -- [_14; …; to _1; …; room for _0; …; the reference; what the others own; its token; their tokens]
       move ! (30 ∷ 32 ∷ []) $ looked ! tt T.the-type T′.the-laws T′.the-copy h γ b o (λ q′ g.
       -- the head. [a share of the collector's cell; the open borrow; _14; …; to _1; …; room for _0; …; what the others own; the tokens]
@@ -186,17 +200,18 @@ module _ {M : Type 1} (𝓤 : URA M) (H : Heap 𝓤) (A : Atoms 𝓤) (W : Given
       (here !) (init ! 2 refl (tt, (tt, (record { fits = room′ .0 }, tt)))) $
       lent-shr ! w16 48 q′ 3 6 refl b o (parts h) tt (h .len) refl (lengths-stand h g) (λ α δ.
       -- the call. [the lengths; their token; what is kept; …; the open borrow; _14; …; to _1; …; room for _0; …; what the others own; the tokens]
-      move ! (35 ∷ 36 ∷ []) $ join ! $ move ! (1 ∷ 2 ∷ 0 ∷ []) $ use3 W (raw (Core 𝓤 H A mem run .pre (to-core α δ))) (goes-core α δ (head-is h g)) $
+      move ! (35 ∷ 36 ∷ []) $ join ! $ move ! (1 ∷ 2 ∷ 0 ∷ []) $
+      use3 W (raw (Core 𝓤 H A mem run .pre (to-core α δ))) (goes-core α δ (head-is h g)) $
       calls-at ! fm (Core 𝓤 H A mem run) known (to-core α δ)
       (and-then ! (local ! 16 refl) (and-then ! (local ! 8 refl)
       (and-then ! (local ! 28 refl) (and-then ! (local ! 26 refl)
       (and-then ! (local ! 24 refl) (and-then ! (local ! 4 refl) (and-then ! (local ! 20 refl) (and-then ! (local ! 18 refl) (no-more !))))))))) (λ w.
       use1 W (later (some (λ (r : ℤ). ((‵ (flft (α ∷ []) fullShare) ⊛ tokens) ⊛ ‵ (i32 .own r (w ∷ [])))
-      ⊛ raw (ensured 𝓤 H A core.ended (core.clauses 𝓤 H A mem run) (α ∷ [], (κ₁, (κ₂, tt)))
-      (headOf h, (lent δ, (store, (begin, (end, (dst, (sd, (pad, tt)))))))) tt r)))) (id⊢ 𝓤 _) $ await ! tt $ pick ! (λ r.
+      ⊛ raw (ensured 𝓤 H A core.ended (core.clauses 𝓤 H A mem run) (to-core α δ .0 .0) (to-core α δ .0 .3) tt r))))
+      (id⊢ 𝓤 _) $ await ! tt $ pick ! (λ r.
       split ! $ move ! (1 ∷ []) $
       use1 W (some (λ (zs : Unit {0} × (Unit {0} × (Unit {0} × (Unit {0} × (Unit {0} × (List ℕ × (Unit {0} × (Unit {0} × Unit {0})))))))).
-      ‵ (lasts core.ended (α ∷ [], (κ₁, (κ₂, tt))) (headOf h, (lent δ, (store, (begin, (end, (dst, (sd, (pad, tt)))))))) zs)
+      ‵ (lasts core.ended (to-core α δ .0 .0) (to-core α δ .0 .3) zs)
       ⊛ (raw (fact 𝓤 (Answers r)) ⊛ raw (fact 𝓤 (Leaves (zs .1 .1 .1 .1 .1 .0)))))) (id⊢ 𝓤 _) $ pick ! (λ zs.
       split ! $ move ! (1 ∷ []) $ split ! $ heard ! (Answers r)
       (λ e. heard ! (Leaves (zs .1 .1 .1 .1 .1 .0)) (λ e′. fsplit ! $ drop ! $ fsplit ! $ drop ! $ fsplit ! $ drop ! $ fsplit ! $ drop ! $ fsplit ! $
@@ -212,8 +227,8 @@ module _ {M : Type 1} (𝓤 : URA M) (H : Heap 𝓤) (A : Atoms 𝓤) (W : Given
       freed ! 11 refl refl $ freed ! 9 refl refl $ freed ! 7 refl refl $ freed ! 5 refl refl $ free0 ! $ keep ! (2 ∷ 1 ∷ 3 ∷ 0 ∷ []) $
       suffices ! _ (ends-at 𝓤 H A f.ended stayed (f.clauses 𝓤 H A mem run) W bound w r (tt, (tt, (tt, (tt, (zs .1 .1 .1 .1 .1 .0, (tt, (tt, tt)))))))
       (tt, (tt, (tt, (tt, (l, (tt, (tt, tt)))))))) $ says ! (e, e′) $
-      move ! (3 ∷ 1 ∷ []) $ join ! $ frame ! $ nothing ! $ nothing ! $ fjoin ! $ nothing ! $ fjoin ! $ move ! (2 ∷ 0 ∷ []) $ fjoin ! $ nothing ! $ fjoin ! $
-      nothing ! $ fjoin ! $ nothing ! $ fjoin ! $ nothing ! $ fjoin ! $ done !))))))))))))))))))))))))
+      move ! (3 ∷ 1 ∷ []) $ join ! $ frame ! $ nothing ! $ nothing ! $ fjoin ! $ nothing ! $ fjoin ! $ move ! (2 ∷ 0 ∷ []) $ fjoin ! $
+      nothing ! $ fjoin ! $ nothing ! $ fjoin ! $ nothing ! $ fjoin ! $ nothing ! $ fjoin ! $ done !))))))))))))))))))))))))
 
 pub aveluafi-repacketizer-out-range-impl-spec : {M : Type 1} → stated.statement M
 unfolding code.routine tablesOf
@@ -222,7 +237,8 @@ aveluafi-repacketizer-out-range-impl-spec 𝓤 H 𝓜 𝓖 𝓡 =
     let 𝓣 = tablesOf 𝓤 H 𝓜 (tables 𝓤 H 𝓜 𝓡 code.env) in
     let known = cited 𝓤 H (Core 𝓤 H (𝓖 .A) (𝓜 .mem) (𝓡 .run)) 𝓜 𝓡 code.env #core core-def.routine code.calls-repacketizer-out·out-lent
     (core-thm.met 𝓤 H 𝓜 𝓖 𝓡) in
-    concluded 𝓤 H 𝓜 𝓖 𝓡 f.ended stayed (f.clauses 𝓤 H (𝓖 .A) (𝓜 .mem) (𝓡 .run)) code.env #lent code.function (code.unfolded 𝓤 H 𝓜 𝓡) (
+    let clauses = f.clauses 𝓤 H (𝓖 .A) (𝓜 .mem) (𝓡 .run) in
+    concluded 𝓤 H 𝓜 𝓖 𝓡 f.ended stayed clauses code.env #lent code.function (code.unfolded 𝓤 H 𝓜 𝓡) (
       goes-dropped 𝓤 H (𝓖 .A) W 3 (shrRefTo (0 ∷ []) tt (plain (λ _. T.the-row))) yes (λ κs x f. refl),
       (
         goes-dropped 𝓤 H (𝓖 .A) W 3 (shrSliceOf (1 ∷ []) tt (plain (λ _. u8))) yes (λ κs x f. refl),
@@ -250,7 +266,8 @@ aveluafi-repacketizer-out-range-impl-spec 𝓤 H 𝓜 𝓖 𝓡 =
       ),
     ))
     (λ κs qs _ a _ are. via 𝓤 _ (fst∗ 𝓤 _ (emp 𝓤))
-    (walk 𝓤 H (𝓖 .A) W (𝓜 .mem) (𝓡 .run) (𝓣 .C) (𝓣 .Λ) (κs .0) (κs .1 .0) (κs .1 .1 .0) (qs .0) (qs .1 .0) (qs .1 .1 .0) (a .0 .ptr .0) (a .0 .ptr .1)
-    (a .0 .name) (a .0 .now) (a .1 .0) (a .1 .1 .1 .1 .0) (a .1 .1 .0) (a .1 .1 .1 .0) (a .1 .1 .1 .1 .1 .0) (a .1 .1 .1 .1 .1 .1 .0)
+    (walk 𝓤 H (𝓖 .A) W (𝓜 .mem) (𝓡 .run) (𝓣 .C) (𝓣 .Λ) (κs .0) (κs .1 .0) (κs .1 .1 .0) (qs .0) (qs .1 .0) (qs .1 .1 .0)
+    (a .0 .ptr .0) (a .0 .ptr .1) (a .0 .name) (a .0 .now) (a .1 .0) (a .1 .1 .1 .1 .0)
+    (a .1 .1 .0) (a .1 .1 .1 .0) (a .1 .1 .1 .1 .1 .0) (a .1 .1 .1 .1 .1 .1 .0)
     (fmOf 𝓤 H (W .laws) 𝓣) known (are .1 .0 .0 .1) (are .1 .1 .1 .1 .0 .0 .1) (are .1 .1 .0) (are .1 .1 .1 .0) (are .1 .1 .1 .1 .1 .0)
     (are .1 .1 .1 .1 .1 .1 .0)))

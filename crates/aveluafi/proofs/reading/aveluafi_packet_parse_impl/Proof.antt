@@ -5,6 +5,7 @@ use mathlib.Core.Path.{_≡_, _∙_}
 use mir.Syntax.{w32}
 use mir.Val.{toZ, ofZ}
 use borrow.Author.Needs.{needs}
+use Rattle.laws.specs.Bytes.{Bytes}
 use Rattle.aveluafi.proofs.Records.{read-few, record-read, record-unread}
 use Rattle.aveluafi.proofs.reading.aveluafi_packet_parse_impl.Statement.{statement}
 use Rattle.aveluafi.proofs.reading.aveluafi_packet_parse_impl.Tie as tie
@@ -15,10 +16,8 @@ cast-t9 c =
     let r = p .read-into in
     let k = p .before .before in
     let a = k .before .args in
-    omega (
-      arith,
-      read-few (a .self-delimited) (a .«data» .now) (r .result) (r .last .1 .1 .0) (record { byte = λ i. k .shared-slice-known .given i .fits }) (r .ensures),
-    )
+    let bytes : Bytes (a .«data» .now) = record { byte = λ i. k .shared-slice-known .given i .fits } in
+    omega (arith, read-few (a .self-delimited) (a .«data» .now) (r .result) (r .last .1 .1 .0) bytes (r .ensures))
 
 returns : tie.Need-returns
 returns c =
@@ -27,7 +26,8 @@ returns c =
     let a = p .before .before .before .args in
     let n = c .number-of in
     let back : toZ w32 (ofZ w32 (n .result)) ≡ n .result = search needs in
-    record-read (a .self-delimited) (a .«data» .now) (r .result) (r .last .1 .1 .0) (r .ensures) (c .before .before .enum-told .given .1) (back ∙ n .ensures)
+    let accepted = c .before .before .enum-told .given .1 in
+    record-read (a .self-delimited) (a .«data» .now) (r .result) (r .last .1 .1 .0) (r .ensures) accepted (back ∙ n .ensures)
 
 returns-2 : tie.Need-returns-2
 returns-2 c =
