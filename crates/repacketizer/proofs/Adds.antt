@@ -2,6 +2,7 @@
 --     goes-none, goes-other, goes-time      whether frames go with those held
 --     with-few, with-timed, with-room       those held and the new ones last at most 120 ms, so they are at most 48 and fit the store
 --     refused-head, more-..                 what an add answers beside the lengths
+--     head-few, Joins, joins, block-stays   frames of lengths ns beside those of a head and its lengths, by a test g of whether they go together
 --     block-.., add-..                      an add by each of its tests
 --     Ends, ends, refused-same              the two ways in which an add ends
 -- Assumes nothing.
@@ -9,12 +10,12 @@ use Prim.Native.Nat.{ℕ, _+_, _*_, _≤_, _<_}
 use native.Mathlib.Nat.{zero-add}
 use native.Mathlib.Omega.{arith}
 use mathlib.Core.Path.{_≡_, refl, sym, _∙_}
-use mathlib.Core.List.{List}
-use mathlib.Core.Bool.{Bool, true, false}
+use mathlib.Core.List.{List, []}
+use mathlib.Core.Bool.{Bool, true, false, not}
 use lib.Dec.{ltb, leb, eqb}
 use lib.ListN.{length}
 use lib.Seq.{sets}
-use borrow.Author.Tests.{eqb-true, eqb-false, lt-ltb, le-ltb, eq-eqb, ne-eqb}
+use borrow.Author.Tests.{eqb-true, eqb-false, lt-ltb, le-ltb, eq-eqb, ne-eqb, not-true, not-false}
 use Rattle.laws.proofs.Never.{never, by-test}
 use Rattle.laws.proofs.Every.{both-right}
 use Rattle.opus_defines.specs.declared.Refusal.{Refusal}
@@ -95,6 +96,11 @@ module _ (h : Head) (count : ℕ) (e : count ≡ h .«nb_frames») where
     pub more-later : (count ≡ 0 → ⊥) → record { verdict = Accepted; toc = h .toc; framesize = h .framesize; count = count + n } ≡ moreFrames h toc n
     more-later z = rw (ne-eqb (h .«nb_frames») 0 (λ y. z (e ∙ y)), e)
 
+-- a refused add, as the code hands it back
+pub refused-as : {a : Adding} {e : Refusal} {h : Head} {len store : List ℕ} {r : AddedHead} → a ≡ noAdd e (collectorOf h len) store
+    → (r ≡ refusedHead e h) × (r .count < 65536) → (addedOf r len ≡ a .answer) × ((store ≡ a .store) × (r .count < 65536))
+refused-as p q = (rw (p, q .0), (rw p, q .1))
+
 -- ---- an add by its tests
 -- frames that are added
 abbrev pub taken : OpusRepacketizer → ℕ → List ℕ → List ℕ → ℕ → List ℕ → Adding
@@ -109,16 +115,44 @@ module _ (rp : OpusRepacketizer) (toc : ℕ) (ns p : List ℕ) (first : ℕ) (st
   unfolding addBlock
   block-added g = rw g
 
--- as the code makes it, with the places that it found
-pub block-as : (h : Head) (len : List ℕ) (toc : ℕ) (ns p : List ℕ) (first : ℕ) (store : List ℕ)
-    → let rp = collectorOf h len in
-    goesWith rp toc (length ns) ≡ true → (at n : ℕ) (r : AddedHead) (all left : List ℕ) → at ≡ total (heldLengths rp) → n ≡ total ns
-    → r ≡ moreFrames h toc (length ns) → all ≡ sets len (h .«nb_frames») ns → left ≡ copied store at p first n
-    → h .«nb_frames» + length ns ≤ 48
-    → let block = addBlock rp toc ns p first store in
-    (addedOf r all ≡ block .answer) × ((left ≡ block .store) × (r .count < 65536))
-block-as h len toc ns p first store g at n r all left a b w l c f =
-    rw (block-added (collectorOf h len) toc ns p first store g, ← a, ← b, w, l) (refl, (c, omega arith))
+-- ---- the same as the code makes it, of the collector with a head and lengths
+-- frames of lengths ns go with those held, and so are few and fit the store
+pub record Joins (h : Head) (len : List ℕ) (toc : ℕ) (ns : List ℕ) : Type 0 where
+  pub goes : goesWith (collectorOf h len) toc (length ns) ≡ true
+  pub few : h .«nb_frames» + length ns ≤ 48
+  pub room : total (heldLengths (collectorOf h len)) + total ns ≤ leastStore
+
+module _ (h : Head) (len : List ℕ) (b : h .toc < 256) (l : length len ≡ 48) (s : sound (collectorOf h len) ≡ true) where
+  pub head-few : h .«nb_frames» ≤ 48
+  head-few = holding (collectorOf h len) b l s .few
+
+  -- g says that they go together
+  pub joins : (toc : ℕ) (ns : List ℕ) {g : Bool} → g ≡ goesWith (collectorOf h []) toc (length ns) → not g ≡ false
+      → length ns ≤ 48 → longest ns ≤ mostBytes → Joins h len toc ns
+  joins toc ns e t few small =
+      let goes : goesWith (collectorOf h len) toc (length ns) ≡ true = sym e ∙ not-false _ t in
+      record {
+        goes = goes;
+        few = with-few (collectorOf h len) toc ns s goes b few;
+        room = with-room (collectorOf h len) toc ns s goes b l few small;
+      }
+
+module _ (h : Head) (len : List ℕ) (toc : ℕ) (ns p : List ℕ) (first : ℕ) (store : List ℕ) where
+  -- g says that they do not
+  pub block-stays : {g : Bool} → g ≡ goesWith (collectorOf h []) toc (length ns) → not g ≡ true
+      → {r : AddedHead} → (r ≡ refusedHead InvalidPacket h) × (r .count < 65536)
+      → let block = addBlock (collectorOf h len) toc ns p first store in
+      (addedOf r len ≡ block .answer) × ((store ≡ block .store) × (r .count < 65536))
+  block-stays e f q = refused-as (block-refused (collectorOf h len) toc ns p first store (sym e ∙ not-true _ f)) q
+
+  -- with the places that the code found
+  pub block-as : Joins h len toc ns → (at n : ℕ) (r : AddedHead) (all left : List ℕ)
+      → at ≡ total (heldLengths (collectorOf h len)) → n ≡ total ns
+      → r ≡ moreFrames h toc (length ns) → all ≡ sets len (h .«nb_frames») ns → left ≡ copied store at p first n
+      → let block = addBlock (collectorOf h len) toc ns p first store in
+      (addedOf r all ≡ block .answer) × ((left ≡ block .store) × (r .count < 65536))
+  block-as j at n r all left a b w l c =
+      rw (block-added (collectorOf h len) toc ns p first store (j .goes), ← a, ← b, w, l) (refl, (c, omega (arith, j .few)))
 
 module _ (sd : Bool) (rp : OpusRepacketizer) (p store : List ℕ) where
   pub add-unsound : sound rp ≡ false → added sd rp p store ≡ noAdd InvalidState rp store
@@ -152,11 +186,6 @@ module _ (sd : Bool) (rp : OpusRepacketizer) (p store : List ℕ) where
   add-empty toc ns first end e h k r =
       add-sound (none-sound rp e) h
       ∙ (add-read toc ns first end k r ∙ block-added rp toc ns p first store (sym (goes-none rp toc (length ns) e)))
-
--- a refused add, as the code hands it back
-pub refused-as : {a : Adding} {e : Refusal} {h : Head} {len store : List ℕ} {r : AddedHead} → a ≡ noAdd e (collectorOf h len) store
-    → (r ≡ refusedHead e h) × (r .count < 65536) → (addedOf r len ≡ a .answer) × ((store ≡ a .store) × (r .count < 65536))
-refused-as p q = (rw (p, q .0), (rw p, q .1))
 
 -- ---- how an add ends
 -- one that takes frames has read them, and they go with those held

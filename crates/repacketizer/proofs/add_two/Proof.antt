@@ -1,19 +1,14 @@
 -- `repacketizer::add_two` meets its contract: frames that go with those held are copied behind them.
 -- Assumes nothing.
-use Prim.Native.Nat.{_+_, _≤_, _<_}
-use mathlib.Core.Path.{_≡_, sym, _∙_}
-use mathlib.Core.Bool.{true}
+use Prim.Native.Nat.{_+_, _<_}
+use mathlib.Core.Path.{_≡_}
 use mathlib.Core.List.{[], _∷_}
 use native.Mathlib.Omega.{arith}
 use borrow.Author.Needs.{needs}
-use borrow.Author.Tests.{not-true, not-false}
 use lib.ListN.{length-set}
 use Rattle.opus_format.specs.Frames.{total}
-use Rattle.repacketizer.specs.Adding.{goesWith}
-use Rattle.repacketizer.specs.Parts.{collectorOf}
-use Rattle.repacketizer.proofs.Held.{Holding, holding}
 use Rattle.repacketizer.proofs.Lengths.{two-put}
-use Rattle.repacketizer.proofs.Adds.{with-few, with-room, block-refused, block-as, refused-as}
+use Rattle.repacketizer.proofs.Adds.{Joins, joins, head-few, block-stays, block-as}
 use Rattle.repacketizer.proofs.add_two.Statement.{statement}
 use Rattle.repacketizer.proofs.add_two.Tie as tie
 
@@ -21,31 +16,28 @@ use Rattle.repacketizer.proofs.add_two.Tie as tie
 byte : (c : tie.Start) → c .args .h .toc < 256
 byte c = search needs
 
-holds : (c : tie.Start) → Holding (collectorOf (c .args .h) (c .args .len .now))
-holds c = holding (collectorOf (c .args .h) (c .args .len .now)) (byte c) (c .pre .0 .0) (c .pre .0 .1)
-
 abbrev entry : tie.After-goes-with → tie.Start
 entry c = c .before .before .before .before
 
 goes-with-requires : tie.Need-goes-with-requires
-goes-with-requires c κs = (holds (c .before .before .before) .few, omega arith)
+goes-with-requires c κs =
+    let s = c .before .before .before in
+    (head-few (s .args .h) (s .args .len .now) (byte s) (s .pre .0 .0) (s .pre .0 .1), omega arith)
 
 returns : tie.Need-returns
 returns c =
     let g = c .before .before in
     let a = entry g .args in
-    let rp = collectorOf (a .h) (a .len .now) in
-    let stays = sym (g .goes-with .ensures) ∙ not-true _ (c .before .if1 .taken) in
-    refused-as (block-refused rp (a .toc) (a .m ∷ a .n ∷ []) (a .«data» .now) (a .first) (a .store .now) stays) (c .refused-add .ensures)
+    block-stays (a .h) (a .len .now) (a .toc) (a .m ∷ a .n ∷ []) (a .«data» .now) (a .first) (a .store .now) (g .goes-with .ensures)
+    (c .before .if1 .taken) (c .refused-add .ensures)
 
 -- the frames go with those held
-goes : (c : tie.Else1) → let a = entry (c .before) .args in goesWith (collectorOf (a .h) []) (a .toc) 2 ≡ true
-goes c = sym (c .before .goes-with .ensures) ∙ not-false _ (c .if1 .left)
-
-few : (c : tie.Else1) → entry (c .before) .args .h .«nb_frames» + 2 ≤ 48
-few c =
+fits : (c : tie.Else1) → let a = entry (c .before) .args in Joins (a .h) (a .len .now) (a .toc) (a .m ∷ a .n ∷ [])
+fits c =
     let s = entry (c .before) in
-    with-few (collectorOf (s .args .h) (s .args .len .now)) (s .args .toc) (s .args .m ∷ s .args .n ∷ []) (s .pre .0 .1) (goes c) (byte s) (omega arith)
+    let a = s .args in
+    joins (a .h) (a .len .now) (byte s) (s .pre .0 .0) (s .pre .0 .1) (a .toc) (a .m ∷ a .n ∷ []) (c .before .goes-with .ensures) (c .if1 .left)
+    (omega arith) (s .pre .1 .0)
 
 -- the bytes of the frames, as the code counts them
 sum : (c : tie.After-wide2)
@@ -58,10 +50,7 @@ copy-into-requires : tie.Need-copy-into-requires
 copy-into-requires c κs =
     let i = c .before .before .before in
     let s = entry (i .before) in
-    let rp = collectorOf (s .args .h) (s .args .len .now) in
-    let ns = s .args .m ∷ s .args .n ∷ [] in
-    let room = with-room rp (s .args .toc) ns (s .pre .0 .1) (goes i) (byte s) (s .pre .0 .0) (omega arith) (s .pre .1 .0) in
-    (omega (arith, s .pre .0 .2, sum c, room, s .pre .0 .3), omega (arith, sum c, s .pre .1 .1))
+    (omega (arith, s .pre .0 .2, sum c, fits i .room, s .pre .0 .3), omega (arith, sum c, s .pre .1 .1))
 
 -- where the frames were found to go with those held
 abbrev joined : tie.After-wide3 → tie.Else1
@@ -70,15 +59,15 @@ joined c = let k = c .before .before .before in k .before .before .before .befor
 slice-write-len : tie.Need-slice-write-len
 slice-write-len c =
     let i = joined c in
-    omega (arith, c .wide3 .ensures .0, few i, entry (i .before) .pre .0 .0)
+    omega (arith, c .wide3 .ensures .0, fits i .few, entry (i .before) .pre .0 .0)
 
 slice-write-len-2 : tie.Need-slice-write-len-2
 slice-write-len-2 c =
     let i = joined c in
-    simp length-set (omega (arith, c .wide3 .ensures .0, few i, entry (i .before) .pre .0 .0))
+    simp length-set (omega (arith, c .wide3 .ensures .0, fits i .few, entry (i .before) .pre .0 .0))
 
 more-frames-requires : tie.Need-more-frames-requires
-more-frames-requires c κs = omega (arith, few (joined c))
+more-frames-requires c κs = omega (arith, fits (joined c) .few)
 
 returns-2 : tie.Need-returns-2
 returns-2 c =
@@ -88,9 +77,9 @@ returns-2 c =
     let i = t .before .before .before in
     let s = entry (i .before) in
     let a = s .args in
-    block-as (a .h) (a .len .now) (a .toc) (a .m ∷ a .n ∷ []) (a .«data» .now) (a .first) (a .store .now) (goes i) (a .at) _ (c .more-frames .result)
+    block-as (a .h) (a .len .now) (a .toc) (a .m ∷ a .n ∷ []) (a .«data» .now) (a .first) (a .store .now) (fits i) (a .at) _ (c .more-frames .result)
     _ (k .copy-into .last .0) (s .pre .0 .2) (sum t) (c .more-frames .ensures)
-    (two-put (a .len .now) (w .wide3 .result) (a .h .«nb_frames») (a .m) (a .n) (w .wide3 .ensures .0)) (k .copy-into .ensures) (few i)
+    (two-put (a .len .now) (w .wide3 .result) (a .h .«nb_frames») (a .m) (a .n) (w .wide3 .ensures .0)) (k .copy-into .ensures)
 
 pub add-two-spec : {M : Type 1} → statement M
 add-two-spec =
