@@ -1,6 +1,7 @@
 -- A number's digits: `decimal` has the fewest, as io's `decimal` promises, and a number below 10 ^ m has at most m.
 --     decimal-room, decimal-laid     what io's `decimal` writes, put as text
 --     decimal-most                   how long it is
+--     text-room, text-put            a number at the front of twenty bytes
 -- Assumes nothing.
 use Prim.Native.Nat.{ℕ, zero, suc, _+_, _*_, _-_, _/_, _%_, _^_, _≤_, _<_}
 use native.Mathlib.Nat.{pow-suc, one-le-pow}
@@ -10,13 +11,15 @@ use mathlib.Core.Path.{_≡_, refl, ap}
 use mathlib.Core.List.{List, [], _∷_}
 use lib.Dec.{ltb}
 use lib.ListN.{length, take, length-append}
+use lib.Seq.{sets}
 use borrow.Author.Tests.{ltb-true, ltb-false}
 use Rattle.laws.proofs.Never.{by-test}
+use Rattle.io.specs.Counts.{Counts}
 use Rattle.io.specs.Digits.{glyph, digits, Fewest}
 use Rattle.show.specs.Text.{places, decimal}
-use Rattle.show.proofs.Laid.{Laid}
+use Rattle.show.proofs.Laid.{Laid, front-counts}
 
-digits-length : (b k n : ℕ) → length (digits b k n) ≡ k
+pub digits-length : (b k n : ℕ) → length (digits b k n) ≡ k
 digits-length b zero n = refl
 digits-length b (suc k) n =
     omega (arith, length-append (digits b k (n / b)) (glyph (n % b) ∷ []), digits-length b k (n / b))
@@ -76,3 +79,17 @@ places-most (suc most) n m h =
 pub decimal-most : (n m : ℕ) → n < 10 ^ suc m → length (decimal n) ≤ suc m
 unfolding decimal
 decimal-most n m h = omega (arith, digits-length 10 (places n n) n, places-most n n m h)
+
+-- ---- a number at the front of twenty bytes
+module _ (l : List ℕ) (n : ℕ) (small : n < 2 ^ 64) (room : length l ≡ 20) where
+  most : length (decimal n) ≤ 20
+  most = decimal-most n 19 (omega arith)
+
+  pub text-room : 0 + length (decimal n) ≤ length l
+  text-room = omega (arith, most)
+
+  pub text-put : {d : List ℕ} {k : ℕ} → d ≡ sets l 0 (decimal n) → k ≡ 0 + length (decimal n)
+      → (d ≡ sets l 0 (decimal n)) × ((k ≡ length (decimal n)) × Counts k d)
+  text-put {d} {k} a b =
+      let b′ : k ≡ length (decimal n) = omega arith in
+      (a, (b′, rw (a, b′) (front-counts l (decimal n) (omega (arith, most)))))

@@ -5,7 +5,7 @@ ghost use lib.IntN.{natAbs};
 ghost use lib.ListN.{length};
 ghost use lib.Seq.{sets};
 ghost use Rattle.io.specs.Counts.{Counts};
-ghost use Rattle.show.specs.Text.{decimal as Text·decimal, integer, refusal};
+ghost use Rattle.show.specs.Text.{decimal as Text·decimal, hexByte, integer, refusal};
 use libc::STDOUT_FILENO;
 
 pub fn text(s: &[u8]) {
@@ -13,7 +13,9 @@ pub fn text(s: &[u8]) {
 }
 
 pub fn decimal(n: usize) {
-    io::print_decimal(STDOUT_FILENO, n as u64);
+    let mut out = [0u8; 20];
+    let k = decimal_text(&mut out, n);
+    text(&out[..k]);
 }
 
 // A number that a call returned.
@@ -25,7 +27,9 @@ pub fn number(x: i32) {
 
 // A byte in hexadecimal.
 pub fn byte(b: u8) {
-    io::print_hex(STDOUT_FILENO, b as u64, 2);
+    let mut out = [0u8; 2];
+    let k = byte_text(&mut out, b);
+    text(&out[..k]);
 }
 
 // The first n bytes, or all where there are fewer.
@@ -62,6 +66,26 @@ pub fn put_decimal(out: &mut [u8], at: usize, n: usize) -> usize
     let mut digits = [0u8; 20];
     let k = io::decimal(n as u64, &mut digits);
     put_text(out, at, &digits[..k])
+}
+
+// A number at the front of `out`: at most twenty digits.
+pub fn decimal_text(out: &mut [u8; 20], n: usize) -> usize
+    ensures bytes { λ _. ⌜ now (out .exit) ≡ sets (now (out .entry)) 0 (Text·decimal n) ⌝ }
+    ensures next { λ r. ⌜ r ≡ length (Text·decimal n) ⌝ }
+    ensures within { λ r. ⌜ Counts r (now (out .exit)) ⌝ }
+{
+    put_decimal(out, 0, n)
+}
+
+// A byte in hexadecimal, two digits, at the front of `out`.
+pub fn byte_text(out: &mut [u8; 2], b: u8) -> usize
+    ensures bytes { λ _. ⌜ now (out .exit) ≡ sets (now (out .entry)) 0 (hexByte b) ⌝ }
+    ensures next { λ r. ⌜ r ≡ length (hexByte b) ⌝ }
+    ensures within { λ r. ⌜ Counts r (now (out .exit)) ⌝ }
+{
+    let mut digits = [0u8; 16];
+    let k = io::hex(b as u64, 2, &mut digits);
+    put_text(out, 0, &digits[..k])
 }
 
 fn magnitude(x: i32) -> usize
