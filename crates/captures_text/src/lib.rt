@@ -93,13 +93,15 @@ pub fn put_lines(data: &[u8], start: usize, out: &mut [u8]) -> Lines
     }
 }
 
-// Prints the whole text of a capture.
+// Prints the whole text of a capture, up to a write that fails, which is told.
 pub fn print(data: &[u8]) {
     let mut out = [0u8; 4096];
     let mut at: usize = 0;
     while at < data.len() {
         let l = put_lines(data, at, &mut out);
-        show::text(&out[..l.bytes]);
+        if !stdio::print(&out[..l.bytes]) {
+            return;
+        }
         at = l.next;
     }
 }

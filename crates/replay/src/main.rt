@@ -7,6 +7,7 @@ use replay_io::input::ByteAt;
 use replay_io::input::Cursor;
 use replay_io::input::Line;
 use replay_io::input::byte;
+use replay_io::output::Flush;
 use replay_io::output::flushed;
 use replay_io::output::put;
 use replay_io::output::text;
@@ -35,6 +36,7 @@ struct Turn {
     on: bool,
     next: usize,
     end: usize,
+    came: usize,
     out: usize,
 }
 
@@ -43,7 +45,23 @@ fn last(at: usize) -> Turn {
         on: false,
         next: 0,
         end: 0,
+        came: 0,
         out: at,
+    }
+}
+
+// The turn behind a line.
+fn turned(out: &mut [u8], c: Cursor, at: usize) -> Turn {
+    let end = put(out, at, b'\n');
+    let Flush::To(place) = flushed(out, end) else {
+        return last(0);
+    };
+    Turn {
+        on: true,
+        next: c.at,
+        end: c.end,
+        came: c.came,
+        out: place,
     }
 }
 
@@ -53,6 +71,7 @@ fn answer(input: &mut [u8], work: &mut [u8], store: &mut [u8], out: &mut [u8], t
     let c = Cursor {
         at: t.next,
         end: t.end,
+        came: t.came,
     };
     let ByteAt::Is(kind, d) = byte(input, c) else {
         return last(at);
@@ -60,13 +79,7 @@ fn answer(input: &mut [u8], work: &mut [u8], store: &mut [u8], out: &mut [u8], t
     let Line::Is(e, next) = case(input, d, work, store, out, at, kind) else {
         return last(text(out, at, b"malformed\n"));
     };
-    let end = put(out, next, b'\n');
-    Turn {
-        on: true,
-        next: e.at,
-        end: e.end,
-        out: flushed(out, end),
-    }
+    turned(out, e, next)
 }
 
 // Nothing says that the input ends, so the turns are counted down.
@@ -75,6 +88,7 @@ fn replay(input: &mut [u8], work: &mut [u8], store: &mut [u8], out: &mut [u8]) -
         on: true,
         next: 0,
         end: 0,
+        came: 0,
         out: 0,
     };
     let mut left: u64 = 18446744073709551615;

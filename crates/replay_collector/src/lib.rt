@@ -93,6 +93,7 @@ struct Adding {
     whole: bool,
     next: usize,
     end: usize,
+    came: usize,
     out: usize,
     rp: OpusRepacketizer,
 }
@@ -124,6 +125,7 @@ fn added(work: &[u8], n: usize, store: &mut [u8], out: &mut [u8], s: Adding, c: 
         whole: true,
         next: c.at,
         end: c.end,
+        came: c.came,
         out: verdict(out, s.out, v),
         rp: held,
     }
@@ -134,6 +136,7 @@ fn add(input: &mut [u8], work: &mut [u8], store: &mut [u8], out: &mut [u8], s: A
     let c = Cursor {
         at: s.next,
         end: s.end,
+        came: s.came,
     };
     let NumberAt::Is(n, d) = bytes(input, c, work) else {
         return no_more(s);
@@ -202,6 +205,7 @@ fn started(c: Cursor, at: usize) -> Adding {
         whole: true,
         next: c.at,
         end: c.end,
+        came: c.came,
         out: at,
         rp: repacketizer::opus_repacketizer_init(),
     }
@@ -226,6 +230,7 @@ fn add_case(
         Cursor {
             at: s.next,
             end: s.end,
+            came: s.came,
         },
         next,
     )

@@ -37,6 +37,24 @@ fn streams_padded(
     number_and_buffer(out, at, r, work, size)
 }
 
+// The case behind its number of streams.
+fn streams_pad_behind(
+    input: &mut [u8],
+    c: Cursor,
+    work: &mut [u8],
+    out: &mut [u8],
+    at: usize,
+    streams: usize,
+) -> Line {
+    let NumberAt::Is(new, d) = length(input, c) else {
+        return Line::Malformed;
+    };
+    let NumberAt::Is(n, e) = bytes(input, d, work) else {
+        return Line::Malformed;
+    };
+    Line::Is(e, streams_padded(out, at, work, n, new, streams))
+}
+
 pub fn streams_pad_case(
     input: &mut [u8],
     c: Cursor,
@@ -47,13 +65,7 @@ pub fn streams_pad_case(
     let NumberAt::Is(streams, d) = four(input, c) else {
         return Line::Malformed;
     };
-    let NumberAt::Is(new, e) = length(input, d) else {
-        return Line::Malformed;
-    };
-    let NumberAt::Is(n, f) = bytes(input, e, work) else {
-        return Line::Malformed;
-    };
-    Line::Is(f, streams_padded(out, at, work, n, new, streams))
+    streams_pad_behind(input, d, work, out, at, streams)
 }
 
 fn streams_unpad(work: &mut [u8], n: usize, streams: usize) -> i32 {

@@ -1,14 +1,18 @@
 // Numbers and bytes of a case, taken from the input buffer, which is filled again as need be.
 ghost use Prim.Native.Nat.{_≤_};
-use libc::STDIN_FILENO;
+use stdio::Got;
 
 // The longest packet, room or new length of a case.
 pub const MOST: usize = 65536;
 
-// The bytes of the input buffer that are read and not used yet.
+// The bytes that came are counted up to here.
+const COUNTED: usize = 4611686018427387904;
+
+// The bytes of the input buffer that are read and not used yet, and how many bytes have come so far.
 pub struct Cursor {
     pub at: usize,
     pub end: usize,
+    pub came: usize,
 }
 
 pub enum ByteAt {
@@ -39,11 +43,45 @@ pub enum Line {
     Malformed,
 }
 
-fn refilled(input: &mut [u8]) -> Cursor {
-    let got = libc::read(STDIN_FILENO, input);
+fn counted(came: usize, n: usize) -> usize {
+    if COUNTED <= came {
+        return came;
+    }
+    if COUNTED <= n {
+        return came;
+    }
+    came + n
+}
+
+fn filled(came: usize, n: usize) -> Cursor {
     Cursor {
         at: 0,
-        end: io::count(got, input),
+        end: n,
+        came: counted(came, n),
+    }
+}
+
+fn read(input: &mut [u8]) -> Got {
+    if input.len() == 0 {
+        return Got::End;
+    }
+    stdio::read_more(input, 0)
+}
+
+// A read that fails is told, and ends the input besides.
+fn refilled(input: &mut [u8], came: usize) -> Cursor {
+    let got = read(input);
+    match got {
+        Got::Bytes(n) => {
+            return filled(came, n);
+        }
+        Got::End => {
+            return filled(came, 0);
+        }
+        Got::Failed => {
+            stdio::tell_read_failed(came);
+            return filled(came, 0);
+        }
     }
 }
 
@@ -52,7 +90,7 @@ fn ready(input: &mut [u8], c: Cursor) -> Cursor {
     if c.at < c.end {
         return c;
     }
-    refilled(input)
+    refilled(input, c.came)
 }
 
 fn byte_at(input: &[u8], c: Cursor) -> ByteAt {
@@ -68,6 +106,7 @@ fn byte_at(input: &[u8], c: Cursor) -> ByteAt {
         Cursor {
             at: at + 1,
             end: c.end,
+            came: c.came,
         },
     )
 }
@@ -156,7 +195,11 @@ fn behind(c: Cursor, k: usize) -> Cursor {
     if end - at < k {
         return c;
     }
-    Cursor { at: at + k, end }
+    Cursor {
+        at: at + k,
+        end,
+        came: c.came,
+    }
 }
 
 // Copies k bytes of the input buffer to `work` at `to`.

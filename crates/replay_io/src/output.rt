@@ -1,5 +1,4 @@
 // Text put into the output buffer: each function answers the next place in `out`.
-use libc::STDOUT_FILENO;
 use opus_defines::Refusal;
 
 // The output is written once it holds so many bytes. A line has fewer than 132,000.
@@ -82,17 +81,27 @@ pub fn number_and_buffer(out: &mut [u8], at: usize, n: i32, s: &[u8], length: us
     buffer(out, b, s, length)
 }
 
-pub fn written(out: &[u8], at: usize) {
+// A write that fails is told.
+pub fn written(out: &[u8], at: usize) -> bool {
     if at <= out.len() {
-        io::write_all(STDOUT_FILENO, &out[0..at]);
+        return stdio::print(&out[0..at]);
     }
+    true
+}
+
+// Where the output goes on, unless it could not be written.
+pub enum Flush {
+    To(usize),
+    Failed,
 }
 
 // Writes the output where it is nearly full.
-pub fn flushed(out: &[u8], at: usize) -> usize {
+pub fn flushed(out: &[u8], at: usize) -> Flush {
     if at < FULL {
-        return at;
+        return Flush::To(at);
     }
-    written(out, at);
-    0
+    if written(out, at) {
+        return Flush::To(0);
+    }
+    Flush::Failed
 }

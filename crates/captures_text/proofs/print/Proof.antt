@@ -26,12 +26,12 @@ slice-aggregate-put-lines c = sym (c .before .before .loop .inv)
 array-share-prefix-out : tie.Need-array-share-prefix-out Inv-loop μ-loop
 array-share-prefix-out c = c .before .put-lines .ensures .1 .1 .1 .0
 
-slice-aggregate-text : tie.Need-slice-aggregate-text Inv-loop μ-loop
-slice-aggregate-text c = c .before .before .put-lines .ensures .1 .1 .1 .1
+slice-aggregate-print : tie.Need-slice-aggregate-print Inv-loop μ-loop
+slice-aggregate-print c = c .before .before .put-lines .ensures .1 .1 .1 .1
 
 loop-less : tie.Need-loop-less Inv-loop μ-loop
 loop-less c =
-    let p = c .before .before .before in
+    let p = c .before .before .before .before in
     let i = p .before .before in
     let l = i .before in
     let a = l .before .before .args in
@@ -39,7 +39,7 @@ loop-less c =
 
 loop-again : tie.Need-loop-again Inv-loop μ-loop
 loop-again c =
-    let p = c .before .before .before in
+    let p = c .before .before .before .before in
     let i = p .before .before in
     let l = i .before in
     let a = l .before .before .args in
@@ -56,8 +56,9 @@ print-spec =
     slice-aggregate-put-lines
     (λ c κs. search needs)
     array-share-prefix-out
-    slice-aggregate-text
+    slice-aggregate-print
     (λ c κs. search needs)
+    (λ c. search needs)
     loop-less
     loop-again
     (λ c. search needs))
