@@ -6,6 +6,9 @@
 
 use std::ops::Range;
 
+/// The header's AVELUAFI_VERSION: the archive that is linked must answer the same (`version`).
+pub const VERSION: i32 = 1;
+
 pub const MOST_FRAMES: usize = 48;
 pub const LEAST_STORE: usize = 61200;
 
@@ -79,6 +82,7 @@ struct RawRecord {
 
 #[link(name = "aveluafi", kind = "static")]
 extern "C" {
+    fn aveluafi_version() -> i32;
     fn aveluafi_packet_parse_impl(data: *const u8, data_len: usize, self_delimited: bool) -> Packet;
     fn aveluafi_repacketizer_init(rp: *mut Repacketizer);
     fn aveluafi_repacketizer_cat(rp: *mut Repacketizer, data: *const u8, data_len: usize, store: *mut u8, store_len: usize) -> i32;
@@ -96,6 +100,11 @@ extern "C" {
     fn aveluafi_packet_pad(data: *mut u8, data_len: usize, len: i32, new_len: i32) -> i32;
     fn aveluafi_packet_unpad(data: *mut u8, data_len: usize, len: i32) -> i32;
     fn aveluafi_next_record(data: *const u8, data_len: usize, start: usize) -> RawRecord;
+}
+
+/// The version of the archive that is linked. Where it is not `VERSION`, nothing that it answers can be relied on.
+pub fn version() -> i32 {
+    unsafe { aveluafi_version() }
 }
 
 /// Reads the packet at the front of `data`: an ordinary one takes all of it, a self-delimited one ends where it says.

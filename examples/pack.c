@@ -32,6 +32,11 @@ static const char *same(const uint8_t *a, const uint8_t *b, size_t n) {
 }
 
 int main(void) {
+    if (aveluafi_version() != AVELUAFI_VERSION) {
+        fprintf(stderr, "the archive is of version %d, the header of %d\n", (int)aveluafi_version(), AVELUAFI_VERSION);
+        return 1;
+    }
+
     /* All memory is the caller's: the collector, the store that it copies frames into, the buffer that packets are written to. */
     struct aveluafi_repacketizer rp;
     static uint8_t store[AVELUAFI_LEAST_STORE];

@@ -3,7 +3,7 @@
 
 #[allow(dead_code)]
 mod aveluafi;
-use aveluafi::{pad, read, unpad, Collector, Refusal, LEAST_STORE};
+use aveluafi::{pad, read, unpad, version, Collector, Refusal, LEAST_STORE, VERSION};
 
 const TOC: u8 = 0x78; // hybrid, 20 ms, one channel; code 0: one frame
 const STEREO: u8 = 0x04; // one of the upper six bits, which must agree within a collector
@@ -25,6 +25,8 @@ fn same(a: Option<&[u8]>, b: &[u8]) -> &'static str {
 }
 
 fn main() -> Result<(), Refusal> {
+    assert_eq!(version(), VERSION, "the archive is of another version than aveluafi.rs");
+
     // All memory is the caller's: the store that the collector copies frames into, the buffer that packets are written to.
     let mut store = [0; LEAST_STORE];
     let mut buffer = [0; 200];

@@ -9,10 +9,12 @@
  *
  * What a caller must see to, since C cannot say it:
  *   - a pointer and a count name that many bytes that can be read, and for a pointer without `const` written; a count of 0 may go with any
- *     pointer that is not NULL; a collector pointer is never NULL;
+ *     pointer, NULL too, as an empty std::vector has it: no byte is touched; a collector pointer is never NULL;
  *   - the memory of two arguments of one call does not overlap (data, store and collector are three different places);
- *   - no other thread writes to that memory during the call;
- *   - a `bool` is 0 or 1, as C's own is.
+ *   - no other thread writes to that memory during the call; so a file that is still being written is read into memory first, and a file that is
+ *     mapped must not be changed or cut meanwhile;
+ *   - a `bool` is 0 or 1, as C's own is;
+ *   - two structs are compared field by field: between the fields there are bytes that mean nothing, and memcmp would look at them.
  */
 #ifndef AVELUAFI_H
 #define AVELUAFI_H
@@ -24,6 +26,15 @@
 #ifdef __cplusplus
 extern "C" {
 #endif
+
+/* ---- the version of this header
+ *
+ * At start, compare: `if (aveluafi_version() != AVELUAFI_VERSION)` the archive that was linked is not the one that this header declares, and
+ * nothing that it answers can be relied on. The number is raised whenever a declaration here changes. */
+
+#define AVELUAFI_VERSION 1
+
+int32_t aveluafi_version(void);
 
 /* ---- numbers; docs/RUNBOOK.md says of each what to do */
 
@@ -83,6 +94,9 @@ struct aveluafi_packet aveluafi_packet_parse_impl(const uint8_t *data, size_t da
  * The caller lends the struct and a store of at least 61,200 bytes, the same one to every call on it. Its frames stand one behind another in the
  * store, copied there: an added packet is needed no longer. The fields are for the calls alone; one that they did not write is refused
  * with -6 if it is unsound, and cannot fault anything.
+ *
+ * Two collectors never share a store: each copies its frames to the front, over those of the other, and no call can notice, since the store holds
+ * frames alone. A store may serve the next collector once what it holds has been written.
  *
  * Order of refusals: -6, then a short store (-1), then a packet or destination over 65,535 bytes (-1), then the rest. */
 
@@ -149,7 +163,10 @@ struct aveluafi_record {
 };
 
 /* The next record at or after start; go on from place + AVELUAFI_RECORD_HEAD + length. -1 where start is past data_len. A capture may have any
- * length. The stack that the call takes does not grow with it. */
+ * length. The stack that the call takes does not grow with it.
+ *
+ * A capture that is still being written may end within a record, which is then passed over; a mark inside its packet can be taken for a record. So
+ * of such a file only what stands behind whole records is final: keep the place behind the last record, and ask again from there when more has come. */
 struct aveluafi_record aveluafi_next_record(const uint8_t *data, size_t data_len, size_t start);
 
 #ifdef __cplusplus

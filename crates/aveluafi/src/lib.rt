@@ -4,3 +4,4 @@ pub mod captures;
 pub mod collector;
 pub mod in_place;
 pub mod reading;
+pub mod version;
