@@ -1,0 +1,172 @@
+/* Asks the archive through include/aveluafi.h for every field of every struct, each of a value of its own, and calls every call once; then every call
+ * that takes a pointer and a count, with NULL and 0. A line for each: 'ok' or 'FAILED' and what it was. Ends with 1 where one failed. */
+#include "aveluafi.h"
+
+long write(int file, const void *bytes, size_t count);
+
+static int failures;
+
+static void text(const char *s) {
+    size_t n = 0;
+    while (s[n])
+        n++;
+    if (write(1, s, n) != (long)n)
+        failures++;
+}
+
+static void number(long x) {
+    char digits[24];
+    int at = 24;
+    unsigned long left = x < 0 ? -(unsigned long)x : (unsigned long)x;
+    digits[--at] = 0;
+    do
+        digits[--at] = (char)('0' + left % 10);
+    while ((left /= 10) > 0);
+    if (x < 0)
+        digits[--at] = '-';
+    text(digits + at);
+}
+
+static void is(const char *what, long found, long expected) {
+    text(found == expected ? "ok " : "FAILED ");
+    text(what);
+    if (found != expected) {
+        text(": ");
+        number(found);
+        text(", expected ");
+        number(expected);
+        failures++;
+    }
+    text("\n");
+}
+
+static int zeros(const uint16_t *lengths, int from) {
+    for (int i = from; i < AVELUAFI_MOST_FRAMES; i++)
+        if (lengths[i] != 0)
+            return 0;
+    return 1;
+}
+
+/* Code 3, three frames of 6, 7 and 9 bytes, 4 bytes of padding: 5 bytes of head, 31 in all. */
+static uint8_t packet[31] = {0x0B, 0xC3, 4, 6, 7};
+static uint8_t store[AVELUAFI_LEAST_STORE], out[64];
+
+static void reading(void) {
+    static const uint8_t field[2] = {253, 2};
+    struct aveluafi_size s = aveluafi_parse_size(field, 2);
+    is("size.number", s.number, 2);
+    is("size.size", s.size, 261);
+    s = aveluafi_parse_size(field, 1);
+    is("size.number refused", s.number, AVELUAFI_BAD_ARG);
+    is("size.size refused", s.size, 0);
+    is("encode_size", aveluafi_encode_size(261, out, 2), 2);
+    is("encode_size first", out[0], 253);
+    is("encode_size second", out[1], 2);
+
+    struct aveluafi_packet p = aveluafi_packet_parse(packet, sizeof packet);
+    is("packet.number", p.number, 3);
+    is("packet.toc", p.toc, 0x0B);
+    is("packet.lengths[0]", p.lengths[0], 6);
+    is("packet.lengths[1]", p.lengths[1], 7);
+    is("packet.lengths[2]", p.lengths[2], 9);
+    is("packet.lengths behind", zeros(p.lengths, 3), 1);
+    is("packet.payload_offset", (long)p.payload_offset, 5);
+    is("packet.packet_offset", (long)p.packet_offset, 31);
+    /* the same bytes self-delimited: no padding, the last length in the head, a byte behind */
+    static const uint8_t own[] = {0x0B, 0x82, 1, 2, 10, 11, 12, 99};
+    p = aveluafi_packet_parse_impl(own, sizeof own, true);
+    is("packet_parse_impl number", p.number, 2);
+    is("packet_parse_impl packet_offset", (long)p.packet_offset, 7);
+    p = aveluafi_packet_parse(packet, 1);
+    is("packet.number refused", p.number, AVELUAFI_INVALID_PACKET);
+    is("packet refused is zeros", p.toc == 0 && zeros(p.lengths, 0) && p.payload_offset == 0 && p.packet_offset == 0, 1);
+    is("packet_get_nb_frames", aveluafi_packet_get_nb_frames(packet, sizeof packet), 3);
+    is("packet_get_samples_per_frame", aveluafi_packet_get_samples_per_frame(packet, sizeof packet, 8000), 160);
+}
+
+static void collecting(void) {
+    struct aveluafi_repacketizer rp;
+    uint8_t *bytes = (uint8_t *)&rp;
+    for (size_t i = 0; i < sizeof rp; i++)
+        bytes[i] = 0xA5;
+    aveluafi_repacketizer_init(&rp);
+    is("repacketizer empty is zeros", rp.toc == 0 && rp.nb_frames == 0 && rp.framesize == 0 && zeros(rp.len, 0), 1);
+    is("repacketizer_cat", aveluafi_repacketizer_cat(&rp, packet, sizeof packet, store, sizeof store), AVELUAFI_OK);
+    is("repacketizer.toc", rp.toc, 0x0B);
+    is("repacketizer.nb_frames", rp.nb_frames, 3);
+    is("repacketizer.framesize", rp.framesize, 160);
+    is("repacketizer.len[0]", rp.len[0], 6);
+    is("repacketizer.len[1]", rp.len[1], 7);
+    is("repacketizer.len[2]", rp.len[2], 9);
+    is("repacketizer.len behind", zeros(rp.len, 3), 1);
+    is("repacketizer_get_nb_frames", aveluafi_repacketizer_get_nb_frames(&rp), 3);
+    is("repacketizer_out", aveluafi_repacketizer_out(&rp, store, sizeof store, out, sizeof out), 26);
+    is("repacketizer_out_range", aveluafi_repacketizer_out_range(&rp, store, sizeof store, 1, 2, out, sizeof out), 8);
+    is("repacketizer_out_range_impl", aveluafi_repacketizer_out_range_impl(&rp, store, sizeof store, 1, 2, out, sizeof out, true, false), 9);
+    is("repacketizer_out_range_impl padded", aveluafi_repacketizer_out_range_impl(&rp, store, sizeof store, 1, 2, out, 40, false, true), 40);
+    rp.nb_frames = 49;
+    is("repacketizer unsound", aveluafi_repacketizer_get_nb_frames(&rp), AVELUAFI_INVALID_STATE);
+}
+
+static void in_place(void) {
+    for (size_t i = 0; i < sizeof packet; i++)
+        out[i] = packet[i];
+    is("packet_pad", aveluafi_packet_pad(out, sizeof out, 31, 40), AVELUAFI_OK);
+    is("packet_unpad", aveluafi_packet_unpad(out, sizeof out, 40), 26);
+    is("multistream_packet_pad", aveluafi_multistream_packet_pad(out, sizeof out, 26, 50, 1), AVELUAFI_OK);
+    is("multistream_packet_unpad", aveluafi_multistream_packet_unpad(out, sizeof out, 50, 1), 26);
+}
+
+static void captures(void) {
+    static const uint8_t file[] = {1, 2, 3, 4, 5, 0x4B, 0x9D, 41, 0, 6, 20, 21, 22, 23, 24, 25, 7};
+    struct aveluafi_record r = aveluafi_next_record(file, sizeof file, 2);
+    is("record.number", r.number, 0);
+    is("record.line", r.line, 41);
+    is("record.place", (long)r.place, 5);
+    is("record.length", (long)r.length, 6);
+    is("record.passed", (long)r.passed, 3);
+    r = aveluafi_next_record(file, sizeof file, 16);
+    is("record none", r.number == 0 && r.line == 0 && r.place == 17 && r.length == 0 && r.passed == 1, 1);
+    r = aveluafi_next_record(file, sizeof file, 18);
+    is("record.number refused", r.number, AVELUAFI_BAD_ARG);
+    is("record refused is zeros", r.line == 0 && r.place == 0 && r.length == 0 && r.passed == 0, 1);
+}
+
+/* An empty std::vector may have no address: NULL with a count of 0 is an empty slice, for every call that takes one. */
+static void nothing(void) {
+    struct aveluafi_repacketizer rp;
+    aveluafi_repacketizer_init(&rp);
+    is("NULL encode_size", aveluafi_encode_size(7, NULL, 0), AVELUAFI_BUFFER_TOO_SMALL);
+    is("NULL parse_size", aveluafi_parse_size(NULL, 0).number, AVELUAFI_BAD_ARG);
+    is("NULL packet_get_samples_per_frame", aveluafi_packet_get_samples_per_frame(NULL, 0, 8000), AVELUAFI_BAD_ARG);
+    is("NULL packet_get_nb_frames", aveluafi_packet_get_nb_frames(NULL, 0), AVELUAFI_BAD_ARG);
+    is("NULL packet_parse", aveluafi_packet_parse(NULL, 0).number, AVELUAFI_INVALID_PACKET);
+    is("NULL packet_parse_impl", aveluafi_packet_parse_impl(NULL, 0, true).number, AVELUAFI_INVALID_PACKET);
+    is("NULL repacketizer_cat packet", aveluafi_repacketizer_cat(&rp, NULL, 0, store, sizeof store), AVELUAFI_INVALID_PACKET);
+    is("NULL repacketizer_cat store", aveluafi_repacketizer_cat(&rp, packet, sizeof packet, NULL, 0), AVELUAFI_BAD_ARG);
+    is("NULL repacketizer_cat both", aveluafi_repacketizer_cat(&rp, NULL, 0, NULL, 0), AVELUAFI_BAD_ARG);
+    is("repacketizer_cat for the outputs", aveluafi_repacketizer_cat(&rp, packet, sizeof packet, store, sizeof store), AVELUAFI_OK);
+    is("NULL repacketizer_out", aveluafi_repacketizer_out(&rp, store, sizeof store, NULL, 0), AVELUAFI_BUFFER_TOO_SMALL);
+    is("NULL repacketizer_out store", aveluafi_repacketizer_out(&rp, NULL, 0, out, sizeof out), AVELUAFI_BAD_ARG);
+    is("NULL repacketizer_out_range", aveluafi_repacketizer_out_range(&rp, store, sizeof store, 0, 1, NULL, 0), AVELUAFI_BUFFER_TOO_SMALL);
+    is("NULL repacketizer_out_range_impl", aveluafi_repacketizer_out_range_impl(&rp, store, sizeof store, 0, 1, NULL, 0, true, true),
+       AVELUAFI_BUFFER_TOO_SMALL);
+    is("NULL packet_pad", aveluafi_packet_pad(NULL, 0, 1, 2), AVELUAFI_BAD_ARG);
+    is("NULL packet_unpad", aveluafi_packet_unpad(NULL, 0, 1), AVELUAFI_BAD_ARG);
+    is("NULL multistream_packet_pad", aveluafi_multistream_packet_pad(NULL, 0, 1, 2, 1), AVELUAFI_BAD_ARG);
+    is("NULL multistream_packet_unpad", aveluafi_multistream_packet_unpad(NULL, 0, 1, 1), AVELUAFI_BAD_ARG);
+    struct aveluafi_record r = aveluafi_next_record(NULL, 0, 0);
+    is("NULL next_record", r.number == 0 && r.place == 0 && r.length == 0 && r.passed == 0, 1);
+}
+
+int main(void) {
+    for (size_t i = 5; i < 27; i++)
+        packet[i] = (uint8_t)(100 + i);
+    is("version", aveluafi_version(), AVELUAFI_VERSION);
+    reading();
+    collecting();
+    in_place();
+    captures();
+    nothing();
+    return failures > 0;
+}
