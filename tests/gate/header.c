@@ -168,5 +168,6 @@ int main(void) {
     in_place();
     captures();
     nothing();
+    is("the last", failures, 0);
     return failures > 0;
 }
