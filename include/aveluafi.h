@@ -1,6 +1,6 @@
 /* Aveluafi: Opus packets packed into longer ones, cut again, padded and stripped of padding; and found in capture files.
  *
- * The C interface of the proved archive libaveluafi.a (`rt staticlib aveluafi`, x86-64 Linux). Names follow unopus 0.0.1 and libopus, under a
+ * The C interface of the proved archive libaveluafi.a (`./aveluafi build archive`, x86-64 Linux). Names follow unopus 0.0.1 and libopus, under a
  * prefix of their own, so that a program can link libopus too.
  *
  * Every call takes every value of its arguments: it answers, or refuses by one of the negative numbers below, and then it has changed nothing:
