@@ -1,3 +1,4 @@
 pub mod Fields
 pub mod At
 pub mod Put
+pub mod Examples

@@ -2,3 +2,4 @@ pub mod Rates
 pub mod Samples
 pub mod Answers
 pub mod Keys
+pub mod Examples

@@ -3,3 +3,4 @@ pub mod Digits
 pub mod Signed
 pub mod Refusals
 pub mod Hex
+pub mod Examples

@@ -1,0 +1,31 @@
+-- Numbers and refusals as text, by computation. 48 is the digit 0, 45 the minus sign.
+-- Assumes nothing.
+use Prim.Native.Nat.{ℕ}
+use mathlib.Core.Path.{_≡_, refl}
+use mathlib.Core.List.{List, [], _∷_, map}
+use lib.IntN.{ℤ, pos, negsuc}
+use Rattle.opus_defines.specs.Numbers.{refusalNumber}
+use Rattle.opus_defines.specs.declared.Refusal.{Refusal}
+use Rattle.opus_defines.specs.declared.Refusal.the-variants.{BadArg, BufferTooSmall, InvalidPacket, InvalidState}
+use Rattle.show.specs.Text.{places, decimal, integer, refusedLabel, refusal}
+
+-- 0, 9, 10, 99, 100 and 5760: no leading zero, and no digit lost
+pub decimals : map (λ (n : ℕ). decimal n) (0 ∷ 9 ∷ 10 ∷ 99 ∷ 100 ∷ 5760 ∷ [])
+    ≡ (48 ∷ []) ∷ (57 ∷ []) ∷ (49 ∷ 48 ∷ []) ∷ (57 ∷ 57 ∷ []) ∷ (49 ∷ 48 ∷ 48 ∷ []) ∷ (53 ∷ 55 ∷ 54 ∷ 48 ∷ []) ∷ []
+unfolding decimal places
+decimals = refl
+
+pub integers : map (λ (x : ℤ). integer x) (pos 0 ∷ pos 10 ∷ negsuc 0 ∷ negsuc 9 ∷ [])
+    ≡ (48 ∷ []) ∷ (49 ∷ 48 ∷ []) ∷ (45 ∷ 49 ∷ []) ∷ (45 ∷ 49 ∷ 48 ∷ []) ∷ []
+unfolding integer decimal places
+integers = refl
+
+-- "refused ", a number of one digit, and the end of the line
+abbrev refusedBy : ℕ → List ℕ
+refusedBy digit = 114 ∷ 101 ∷ 102 ∷ 117 ∷ 115 ∷ 101 ∷ 100 ∷ 32 ∷ 45 ∷ digit ∷ 10 ∷ []
+
+-- -1, -2, -4 and -6
+pub refusals : map (λ (e : Refusal). refusal (refusalNumber e)) (BadArg ∷ BufferTooSmall ∷ InvalidPacket ∷ InvalidState ∷ [])
+    ≡ refusedBy 49 ∷ refusedBy 50 ∷ refusedBy 52 ∷ refusedBy 54 ∷ []
+unfolding refusal refusedLabel integer decimal places
+refusals = refl
