@@ -4,10 +4,11 @@
 use mathlib.Core.Path.{_≡_, refl}
 use mathlib.Core.List.{List, [], _∷_}
 use Prim.Native.Nat.{ℕ}
+use lib.IntN.{ℤ, pos, negsuc}
 use Rattle.opus_defines.specs.declared.Refusal.the-variants.{BadArg}
 use Rattle.opus_defines.specs.declared.Verdict.the-variants.{Accepted, Refused}
 use Rattle.capture.specs.Records.{Entry, written, fileOf}
-use Rattle.capture.specs.Finding.{packetLength, packetAt, before, recordFrom, nextRecord}
+use Rattle.capture.specs.Finding.{packetLength, packetAt, before, recordFrom, nextRecord, recordNumber}
 use Rattle.capture.specs.Reading.{recordBytes, readingsIn, readings, pieces, answersFor}
 
 abbrev sample : List ℕ
@@ -38,6 +39,12 @@ at-the-end = refl
 past-the-end : nextRecord sample 25 ≡ record { verdict = Refused BadArg; line = 0; place = 0; length = 0; passed = 0 }
 unfolding nextRecord
 past-the-end = refl
+
+-- the numbers: 0 for a record and for none, -1 past the end
+numbers : recordNumber (nextRecord sample 0) ∷ recordNumber (nextRecord sample 24) ∷ recordNumber (nextRecord sample 25) ∷ []
+    ≡ pos 0 ∷ pos 0 ∷ negsuc 0 ∷ []
+unfolding nextRecord
+numbers = refl
 
 packet : packetAt sample 1 ≡ 8 ∷ 9 ∷ []
 unfolding packetAt packetLength

@@ -39,9 +39,15 @@ pieces-join-to-the-file s = join-from s 0 (omega arith)
 pub pieces-join-from : (s : List ℕ) (at : ℕ) → at ≤ length s → joined s (readings s at) ≡ drop at s
 pieces-join-from s at h = join-from s at h
 
--- By place: of every byte, one answer passes it over and it lies in no record so read, or no answer does and it lies in just one.
-pub each-byte-once : (s : List ℕ) (k : ℕ) → k < length s → timesPassed (readings s 0) k + timesHeld (readings s 0) k ≡ 1
-each-byte-once s k h = once-from s 0 (omega arith) .one k (omega arith) h
+-- By place: of every byte from the start on, one answer passes it over and it lies in no record so read, or no answer does and it lies in just one.
+pub each-byte-once : (s : List ℕ) (at : ℕ) → at ≤ length s → (k : ℕ) → at ≤ k → k < length s
+    → timesPassed (readings s at) k + timesHeld (readings s at) k ≡ 1
+each-byte-once s at h = once-from s at h .one
+
+-- Of the bytes before the start none is passed over, and none lies in a record so read.
+pub none-before-the-start : (s : List ℕ) (at : ℕ) → at ≤ length s → (k : ℕ) → k < at
+    → timesPassed (readings s at) k + timesHeld (readings s at) k ≡ 0
+none-before-the-start s at h = once-from s at h .none
 
 -- ---- 2. At no passed-over place does a record stand, and a passed-over byte is in no record so read; what is found stands there.
 pub nothing-stands-where-passed-over : (s : List ℕ) (at : ℕ) (a : NextRecord) → at ≤ length s → Among a (readings s at)
