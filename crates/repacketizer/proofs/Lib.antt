@@ -5,6 +5,8 @@ pub mod Held
 pub mod Checks
 pub mod Parsed
 pub mod Adds
+pub mod Kept
 pub mod Steps
 pub mod Runs
 pub mod Promises
+pub mod Examples

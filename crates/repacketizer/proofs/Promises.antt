@@ -1,28 +1,31 @@
 -- What a buyer may count on when packets are added (demand 3, and document 01's refusals).
 -- Assumes nothing.
-use Prim.Native.Nat.{ℕ, _*_, _≤_, _<_}
+use Prim.Native.Nat.{ℕ, _+_, _*_, _≤_, _<_}
 use native.Mathlib.Nat.{zero-add}
 use mathlib.Core.Path.{_≡_, refl, sym, _∙_}
 use mathlib.Core.List.{List}
 use mathlib.Core.Bool.{Bool, true, false}
+use mathlib.Core.Logic.{_⊎_}
 use lib.Dec.{leb}
 use lib.IntN.{ℤ, pos, negsuc}
-use lib.ListN.{length}
+use lib.ListN.{length, getD}
 use Rattle.laws.proofs.Never.{never}
 use Rattle.opus_defines.specs.Numbers.{verdictNumber}
 use Rattle.opus_defines.specs.declared.Rule.{Rule}
 use Rattle.opus_defines.specs.declared.Verdict.{Verdict}
 use Rattle.opus_defines.specs.declared.Verdict.the-variants.{Accepted, Refused}
 use Rattle.opus_defines.proofs.Outcomes.{rule-number}
-use Rattle.opus_toc.specs.Toc.{upperSix, samples, time}
+use Rattle.opus_toc.specs.Toc.{upperSix, configuration, samples, time}
 use Rattle.opus_toc.proofs.Samples.{lasts-at}
+use Rattle.opus_format.specs.Frames.{total}
 use Rattle.opus_format.specs.Reading.{refused, accepted, read}
 use Rattle.repacketizer.specs.declared.OpusRepacketizer.{OpusRepacketizer}
-use Rattle.repacketizer.specs.Collector.{held, leastStore, sound}
+use Rattle.repacketizer.specs.Collector.{heldLengths, held, sound}
 use Rattle.repacketizer.specs.Adding.{goesWith, adds, added, addedNumber}
 use Rattle.repacketizer.specs.Runs.{State, Ready, Empty, Arrival, AllBytes, SameSix, afterAdds, framesAccepted}
-use Rattle.repacketizer.proofs.Adds.{block-refused, block-added, add-empty, refused-keeps}
+use Rattle.repacketizer.proofs.Adds.{taken, block-refused, block-added, add-empty, refused-keeps}
 use Rattle.repacketizer.proofs.Adds.{add-unsound, add-tight, add-sound, add-long, add-refused, add-read}
+use Rattle.repacketizer.proofs.Kept.{add-took, first-sets, later-keeps, lengths-stay, bytes-stay}
 use Rattle.repacketizer.proofs.Runs.{empty-ready, empty-held, runs-ready, runs-held, runs-six}
 
 -- 1. From any collector that holds nothing, after any list of adds, each in its own form and refused ones included, the collector is sound and
@@ -40,12 +43,12 @@ six-bits-are-kept s l b = runs-six s l b
 
 -- 2. An empty collector takes any packet that the reader accepts.
 pub empty-takes-all : (sd : Bool) (rp : OpusRepacketizer) (store p : List ℕ) (toc : ℕ) (ns : List ℕ) (first taken : ℕ) → rp .«nb_frames» ≡ 0
-    → leastStore ≤ length store → length p ≤ 65535 → read sd p ≡ accepted toc ns first taken → added sd rp p store .answer .verdict ≡ Accepted
+    → 61200 ≤ length store → length p ≤ 65535 → read sd p ≡ accepted toc ns first taken → added sd rp p store .answer .verdict ≡ Accepted
 empty-takes-all sd rp store p toc ns first taken e h k r = rw (add-empty sd rp p store toc ns first taken e h k r)
 
 -- and then holds frames that last as long as the packet,
 pub empty-holds-its-time : (sd : Bool) (rp : OpusRepacketizer) (store p : List ℕ) (toc : ℕ) (ns : List ℕ) (first taken : ℕ) → rp .«nb_frames» ≡ 0
-    → leastStore ≤ length store → length p ≤ 65535 → read sd p ≡ accepted toc ns first taken
+    → 61200 ≤ length store → length p ≤ 65535 → read sd p ≡ accepted toc ns first taken
     → let a = added sd rp p store .answer .rp in time (a .toc) (a .«nb_frames») ≡ time toc (length ns)
 empty-holds-its-time sd rp store p toc ns first taken e h k r = rw (add-empty sd rp p store toc ns first taken e h k r, e, zero-add)
 
@@ -75,10 +78,10 @@ module _ (sd : Bool) (rp : OpusRepacketizer) (p store : List ℕ) where
 
   module _ (soundly : sound rp ≡ true) where
     -- then a store of too few bytes, -1,
-    pub add-then-store : length store < leastStore → number ≡ negsuc 0
+    pub add-then-store : length store < 61200 → number ≡ negsuc 0
     add-then-store h = rw (add-tight sd rp p store soundly h)
 
-    module _ (roomy : leastStore ≤ length store) where
+    module _ (roomy : 61200 ≤ length store) where
       -- then a packet of too many bytes, -1,
       pub add-then-length : 65535 < length p → number ≡ negsuc 0
       add-then-length h = rw (add-sound sd rp p store soundly roomy, add-long sd rp p store h)
@@ -96,3 +99,29 @@ module _ (sd : Bool) (rp : OpusRepacketizer) (p store : List ℕ) where
         pub add-otherwise-takes : goesWith rp toc (length ns) ≡ true → number ≡ pos 0
         add-otherwise-takes g =
             rw (add-sound sd rp p store soundly roomy, add-read sd rp p store toc ns first end h r, block-added rp toc ns p first store g)
+
+-- 9. What an accepted add does beside its frames: it counts them; the first packet sets the TOC byte and the frame size, at 8 kHz, and later ones
+-- keep both; no length but those of its frames changes, and no byte of the store but those that it copies.
+module _ (sd : Bool) (rp : OpusRepacketizer) (p store : List ℕ) (toc : ℕ) (ns : List ℕ) (first end : ℕ) (r : read sd p ≡ accepted toc ns first end)
+    (v : added sd rp p store .answer .verdict ≡ Accepted) where
+  did : added sd rp p store ≡ taken rp toc ns p first store
+  did = add-took sd rp p store toc ns first end r v
+
+  pub add-counts : added sd rp p store .answer .rp .«nb_frames» ≡ rp .«nb_frames» + length ns
+  add-counts = rw did
+
+  pub first-packet-sets : rp .«nb_frames» ≡ 0
+      → let a = added sd rp p store .answer .rp in (a .toc ≡ toc) × (a .framesize .0 ≡ samples 8000 (configuration toc))
+  first-packet-sets e = rw did (first-sets rp toc ns e)
+
+  pub later-packet-keeps : (rp .«nb_frames» ≡ 0 → ⊥)
+      → let a = added sd rp p store .answer .rp in (a .toc ≡ rp .toc) × (a .framesize ≡ rp .framesize)
+  later-packet-keeps z = rw did (later-keeps rp toc ns z)
+
+  pub other-lengths-stay : (k : ℕ) → (k < rp .«nb_frames») ⊎ (rp .«nb_frames» + length ns ≤ k)
+      → getD (added sd rp p store .answer .rp .len) k 0 ≡ getD (rp .len) k 0
+  other-lengths-stay k o = rw did (lengths-stay rp toc ns k o)
+
+  pub other-bytes-stay : (k : ℕ) → (k < total (heldLengths rp)) ⊎ (total (heldLengths rp) + total ns ≤ k)
+      → getD (added sd rp p store .store) k 0 ≡ getD store k 0
+  other-bytes-stay k o = rw did (bytes-stay store (total (heldLengths rp)) p first (total ns) k o)
