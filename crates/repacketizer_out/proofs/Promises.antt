@@ -1,6 +1,7 @@
 -- What a buyer may count on when frames are written (demand 3, and document 01's refusals). `sd` is true for the self-delimited form.
 -- Assumes nothing.
 use Prim.Native.Nat.{ℕ, _≤_, _<_}
+use native.Mathlib.Omega.{arith}
 use mathlib.Core.Path.{_≡_, ap, _∙_}
 use mathlib.Core.List.{List, map}
 use mathlib.Core.Bool.{Bool, true, false}
@@ -17,15 +18,15 @@ use Rattle.opus_header.proofs.Shortest.{shortest}
 use Rattle.opus_header.proofs.Spelled.{compact-spelled}
 use Rattle.opus_header.proofs.Filling.{filling-spelled, filling-zeros}
 use Rattle.repacketizer.specs.declared.OpusRepacketizer.{OpusRepacketizer}
-use Rattle.repacketizer.specs.Collector.{held, leastStore, sound}
+use Rattle.repacketizer.specs.Collector.{held, sound}
 use Rattle.repacketizer.specs.Runs.{State, Ready, Empty, Holds, Arrival, AllBytes, AllAccepted, afterAdds, framesAccepted}
 use Rattle.repacketizer.proofs.Runs.{runs-bytes}
 use Rattle.repacketizer.proofs.Promises.{frames-are-kept, collector-stays-sound}
 use Rattle.opus_defines.proofs.Outcomes.{refusal-keeps}
-use Rattle.repacketizer_out.specs.Output.{outputs, range, outRange}
+use Rattle.repacketizer_out.specs.Output.{outputs, range, outRange, outAll}
 use Rattle.repacketizer_out.specs.Pieces.{Nonempty, together, packed, Cut, Cuts, Room, outputsAdded}
-use Rattle.repacketizer_out.proofs.Ranges.{range-lasts, range-small}
-use Rattle.repacketizer_out.proofs.Outputs.{out-unsound, out-tight, out-long, out-sound, frames-out}
+use Rattle.repacketizer_out.proofs.Ranges.{length-held, ready-holding, range-lasts, range-small}
+use Rattle.repacketizer_out.proofs.Outputs.{out-unsound, out-tight, out-long, out-sound, frames-none, frames-out}
 use Rattle.repacketizer_out.proofs.Outputs.{range-output, output-written, output-exactly, output-fills}
 use Rattle.repacketizer_out.proofs.Packets.{spelled-back}
 use Rattle.repacketizer_out.proofs.Again.{cuts-held, outputs-held}
@@ -44,13 +45,13 @@ module _ (s : State) (r : Ready s) (begin end : ℕ) (some : begin < end) (withi
   abbrev frames : List (List ℕ)
   frames = range begin end (held (s .rp) (s .store))
 
-  -- 4. Unpadded output is refused for room exactly where the destination is shorter than the compact packet,
-  pub refused-for-room-exactly : (sd : Bool)
-      → (outRange sd false (s .rp) (s .store) (pos begin) (pos end) dst .number ≡ negsuc 1 → length dst < length (compact sd six frames))
-      × (length dst < length (compact sd six frames) → outRange sd false (s .rp) (s .store) (pos begin) (pos end) dst .number ≡ negsuc 1)
-  refused-for-room-exactly sd = rw (range-output sd false s r begin end some within dst most) (output-exactly sd false six frames dst)
+  -- 4. Output, padded or not, is refused for room exactly where the destination is shorter than the compact packet,
+  pub refused-for-room-exactly : (sd pad : Bool)
+      → (outRange sd pad (s .rp) (s .store) (pos begin) (pos end) dst .number ≡ negsuc 1 → length dst < length (compact sd six frames))
+      × (length dst < length (compact sd six frames) → outRange sd pad (s .rp) (s .store) (pos begin) (pos end) dst .number ≡ negsuc 1)
+  refused-for-room-exactly sd pad = rw (range-output sd pad s r begin end some within dst most) (output-exactly sd pad six frames dst)
 
-  -- otherwise writes it,
+  -- otherwise the unpadded one writes it,
   pub output-is-compact : (sd : Bool) → length (compact sd six frames) ≤ length dst
       → outRange sd false (s .rp) (s .store) (pos begin) (pos end) dst ≡ writes (compact sd six frames) dst
   output-is-compact sd h = range-output sd false s r begin end some within dst most ∙ output-written sd false six frames dst h
@@ -79,6 +80,17 @@ module _ (s : State) (r : Ready s) (begin end : ℕ) (some : begin < end) (withi
   pub padding-is-zeros : (sd : Bool) (m : ℕ) → filling-is-a-packet sd m .padding ≡ replicate (length (filling-is-a-packet sd m .padding)) 0
   unfolding filling-is-a-packet
   padding-is-zeros sd m = filling-zeros sd six frames m (range-lasts s r begin end some within) (range-small s r begin end some within)
+
+-- Output of all is output of the range of all frames held; where none is held, it is refused by -1.
+module _ (s : State) (r : Ready s) (dst : List ℕ) (most : length dst ≤ 65535) where
+  pub all-is-the-range : outAll (s .rp) (s .store) dst ≡ outRange false false (s .rp) (s .store) (pos 0) (pos (length (held (s .rp) (s .store)))) dst
+  all-is-the-range = rw (length-held (s .rp) (s .store) (ready-holding s r))
+
+  pub all-of-none-is-refused : s .rp .«nb_frames» ≡ 0 → outAll (s .rp) (s .store) dst .number ≡ negsuc 0
+  all-of-none-is-refused e =
+      ap (λ (o : Outcome). o .number)
+      (out-sound false false (s .rp) (s .store) (pos 0) (pos (s .rp .«nb_frames»)) dst (r .soundly) (r .roomy) most
+      ∙ frames-none false false (upperSix (s .rp .toc)) (held (s .rp) (s .store)) dst 0 (s .rp .«nb_frames») (omega (arith, e)))
 
 -- 6. The frames held, cut into consecutive pieces that are not empty, each as its compact packet and added in order to a collector that holds
 -- nothing, are held again, with the same upper six TOC bits; every add is accepted.
@@ -123,10 +135,10 @@ module _ (sd pad : Bool) (rp : OpusRepacketizer) (store : List ℕ) (begin end :
 
   module _ (soundly : sound rp ≡ true) where
     -- then a store of too few bytes, -1,
-    pub output-then-store : length store < leastStore → number ≡ negsuc 0
+    pub output-then-store : length store < 61200 → number ≡ negsuc 0
     output-then-store h = answers (out-tight sd pad rp store begin end dst soundly h)
 
-    module _ (roomy : leastStore ≤ length store) where
+    module _ (roomy : 61200 ≤ length store) where
       -- then a destination of too many bytes, -1,
       pub output-then-destination : 65535 < length dst → number ≡ negsuc 0
       output-then-destination h = answers (out-long sd pad rp store begin end dst soundly roomy h)
