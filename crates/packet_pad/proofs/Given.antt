@@ -2,6 +2,7 @@
 --     length-none, length-over, length-most, length-is     what `length_of` answers
 --     length-told, lengths-told                            what a caller of them knows
 --     length-within, length-own                            a length that is not 0, and one that is within
+--     length-outside, ..-outside                           one that is not
 --     lengths-.., more-within                              what `lengths_of` answers, and what is known of lengths to pad
 -- Assumes nothing.
 use Prim.Native.Nat.{ℕ, _≤_, _<_}
@@ -12,15 +13,16 @@ use mathlib.Core.Bool.{Bool, true, false, _||_}
 use lib.Dec.{ltb, eqb}
 use lib.IntN.{ℤ, pos, negsuc}
 use lib.ListN.{length}
+use mathlib.Core.Logic.{inl, inr}
 use mir.Syntax.{w32}
 use mir.Val.{toZ, ofZ, SFits}
 use mir.ValLaws.{toZ-ofZ}
-use borrow.Author.Tests.{ltb-false, lt-ltb, le-ltb, eq-eqb, ne-eqb, eqb-false}
+use borrow.Author.Tests.{ltb-false, lt-ltb, le-ltb, eq-eqb, ne-eqb, eqb-true, eqb-false}
 use Rattle.laws.proofs.Never.{never, by-test}
 use Rattle.opus_defines.specs.Numbers.{countOf}
 use Rattle.opus_defines.specs.declared.Count.the-variants.{Is, Negative}
 use Rattle.opus_defines.proofs.Counts.{is-natural}
-use Rattle.packet_pad.specs.Lengths.{lengthOf, lengthsBy, lengthsOf}
+use Rattle.packet_pad.specs.Lengths.{lengthOf, Outside, lengthsBy, lengthsOf}
 use Rattle.packet_pad.specs.declared.lengths.Lengths.{Lengths}
 use Rattle.packet_pad.specs.declared.lengths.Lengths.the-variants.{Bad, Same, More}
 
@@ -50,6 +52,12 @@ length-within s (negsuc n) = (omega arith, omega arith)
 length-within s (pos n) =
     by-test (ltb (length s) n) (λ t. rw t (omega arith, omega arith))
     (λ t. by-test (ltb 65535 n) (λ u. rw (t, u) (omega arith, omega arith)) (λ u. rw (t, u) (ltb-false (length s) n t, ltb-false 65535 n u)))
+
+pub length-outside : (s : List ℕ) (x : ℤ) → Outside s x → lengthOf s x ≡ 0
+length-outside s (negsuc n) o = refl
+length-outside s (pos n) (inl e) = by-test (ltb (length s) n || ltb 65535 n) (λ t. rw t) (λ t. rw t e)
+length-outside s (pos n) (inr (inl h)) = rw (lt-ltb (length s) n h)
+length-outside s (pos n) (inr (inr h)) = by-test (ltb (length s) n) (λ t. rw t) (λ t. rw (t, lt-ltb 65535 n h))
 
 -- ---- two lengths
 module _ (n m : ℕ) where
@@ -111,3 +119,17 @@ lengths-own s n m some h room short =
 pub lengths-equal : (s : List ℕ) (n : ℕ) → 1 ≤ n → n ≤ length s → n ≤ 65535 → lengthsOf s (pos n) (pos n) ≡ Same
 unfolding lengthsOf
 lengths-equal s n some room short = rw (length-own s n room short) (sym (lengths-same n n (λ e. omega arith) (λ e. omega arith) refl))
+
+-- either of two lengths
+module _ (s : List ℕ) (x y : ℤ) where
+  pub first-outside : Outside s x → lengthsOf s x y ≡ Bad
+  unfolding lengthsOf
+  first-outside o = sym (lengths-none (lengthOf s x) (lengthOf s y) (length-outside s x o))
+
+  pub new-outside : Outside s y → lengthsOf s x y ≡ Bad
+  unfolding lengthsOf
+  new-outside o =
+      let z = length-outside s y o in
+      by-test (eqb (lengthOf s x) 0)
+      (λ t. sym (lengths-none (lengthOf s x) (lengthOf s y) (eqb-true (lengthOf s x) 0 t)))
+      (λ t. sym (lengths-no-new (lengthOf s x) (lengthOf s y) (eqb-false (lengthOf s x) 0 t) z))

@@ -2,7 +2,7 @@
 -- Assumes nothing.
 use Prim.Native.Nat.{ℕ, _≤_, _<_}
 use native.Mathlib.Omega.{arith}
-use mathlib.Core.Path.{_≡_, sym, _∙_}
+use mathlib.Core.Path.{_≡_, refl, sym, _∙_}
 use mathlib.Core.List.{List}
 use mathlib.Core.Bool.{false}
 use lib.Dec.{eqb}
@@ -22,9 +22,11 @@ use Rattle.opus_format.specs.Reading.{accepted, read, framesOf}
 use Rattle.opus_header.specs.Compact.{compact, filling}
 use Rattle.opus_header.proofs.Filling.{filling-length}
 use Rattle.opus_header.proofs.Rebuilt.{spelled-some, compact-of, never-longer}
-use Rattle.packet_pad.specs.Lengths.{lengthOf, lengthsOf, bounded, byLengths}
+use Rattle.packet_pad.specs.Lengths.{lengthOf, Outside, lengthsOf, bounded, byLengths}
 use Rattle.packet_pad.specs.Pad.{padsTo, padPacket, padded}
 use Rattle.packet_pad.specs.Unpad.{unpadPacket, unpadded}
+use Rattle.packet_pad.proofs.Given.{length-outside, first-outside, new-outside}
+use Rattle.packet_pad.proofs.Calls.{pad-bad, unpad-none}
 use Rattle.packet_pad.proofs.Spelled.{read-whole, reads-back, filling-of, pad-spelled, pad-equal, unpad-spelled, unpad-written}
 use Rattle.packet_pad.proofs.Stages.{pad-stages, pad-front, unpad-again}
 
@@ -106,3 +108,13 @@ refused-pad-changes-nothing s len new n e = refusal-keeps s (byLengths (λ n m. 
 pub refused-unpad-changes-nothing : (s : List ℕ) (len : ℤ) (n : ℕ) → unpadded s len .number ≡ negsuc n → unpadded s len .bytes ≡ s
 unfolding unpadded
 refused-unpad-changes-nothing s len n e = refusal-keeps s (bounded (λ n. unpadPacket (take n s)) (lengthOf s len)) n e
+
+-- 8. A length that is negative, 0, above the buffer or above 65,535 is refused by -1, whatever else is wrong.
+pub pad-length-outside : (s : List ℕ) (len new : ℤ) → Outside s len → padded s len new .number ≡ negsuc 0
+pad-length-outside s len new o = rw (pad-bad s len new (first-outside s len new o))
+
+pub pad-new-length-outside : (s : List ℕ) (len new : ℤ) → Outside s new → padded s len new .number ≡ negsuc 0
+pad-new-length-outside s len new o = rw (pad-bad s len new (new-outside s len new o))
+
+pub unpad-length-outside : (s : List ℕ) (len : ℤ) → Outside s len → unpadded s len .number ≡ negsuc 0
+unpad-length-outside s len o = rw (unpad-none s len 0 (length-outside s len o) refl)

@@ -1,5 +1,7 @@
 -- The lengths that a call in place is given (document 01, 'Return numbers').
-use Prim.Native.Nat.{ℕ}
+use Prim.Native.Nat.{ℕ, _<_}
+use mathlib.Core.Path.{_≡_}
+use mathlib.Core.Logic.{_⊎_}
 use mathlib.Core.List.{List, []}
 use mathlib.Core.Bool.{cond, _||_}
 use lib.Dec.{ltb, eqb}
@@ -15,6 +17,11 @@ use Rattle.packet_pad.specs.declared.lengths.Lengths.the-variants.{Bad, 
 abbrev pub lengthOf : List ℕ → ℤ → ℕ
 lengthOf s (negsuc n) = 0
 lengthOf s (pos n) = cond (ltb (length s) n || ltb mostPacket n) 0 n
+
+-- a number that no call takes for a length: negative, 0, above the lent buffer s or above 65,535
+abbrev pub Outside : List ℕ → ℤ → Type 0
+Outside s (negsuc n) = Unit {0}
+Outside s (pos n) = (n ≡ 0) ⊎ ((length s < n) ⊎ (65535 < n))
 
 -- the packet's length and the new one, which is not to be shorter
 abbrev pub lengthsBy : ℕ → ℕ → Lengths
