@@ -4,3 +4,4 @@ pub mod Filled
 pub mod Ends
 pub mod Readings
 pub mod Promises
+pub mod Examples

@@ -5,6 +5,7 @@ use native.Mathlib.Omega.{arith}
 use mathlib.Core.Path.{_≡_, refl, sym, _∙_}
 use mathlib.Core.List.{List, [], _++_, append-nil}
 use lib.Dec.{leb, ltb}
+use lib.IntN.{negsuc}
 use lib.ListN.{length}
 use borrow.Author.Tests.{ltb-true, ltb-false, lt-ltb, le-ltb, leb-true, leb-false, le-leb, lt-leb}
 use Rattle.laws.proofs.Never.{by-test}
@@ -40,11 +41,13 @@ printed-lines (suc most) s at room h short i k =
     (λ t. let e = ltb-false at (length s) t in printed-end (suc most) s at room e ∙ sym (text-end s at e))
 
 -- ---- the whole
-text-read : (s : List ℕ) → length s ≤ mostCapture → captureText s ≡ recordLines (readings s 0)
+-- a capture of at most 65,536 bytes is a line for each record that is read from its front,
+pub text-read : (s : List ℕ) → length s ≤ 65536 → captureText s ≡ recordLines (readings s 0)
 unfolding captureText
 text-read s h = simp (le-leb (length s) mostCapture h)
 
-text-refused : (s : List ℕ) → mostCapture < length s → captureText s ≡ refusal (refusalNumber BadArg)
+-- a longer one is `refused -1`
+pub text-refused : (s : List ℕ) → 65536 < length s → captureText s ≡ refusal (negsuc 0)
 unfolding captureText
 text-refused s h = simp (lt-leb (length s) mostCapture h)
 
@@ -54,7 +57,8 @@ printed-refused zero s room h long some = absurd (omega arith)
 printed-refused (suc most) s room h long some =
     printed-more most s 0 room (omega arith) ∙ rw (part-refused s 0 room long h, printed-end most s (length s) room (omega arith), append-nil)
 
-pub the-parts-are-the-text : (s : List ℕ) (room : ℕ) → lineMost ≤ room → printed (length s) s 0 room ≡ captureText s
+-- any buffer of 16 bytes or more will do
+pub the-parts-are-the-text : (s : List ℕ) (room : ℕ) → 16 ≤ room → printed (length s) s 0 room ≡ captureText s
 the-parts-are-the-text s room h =
     by-test (leb (length s) mostCapture)
     (λ t.
