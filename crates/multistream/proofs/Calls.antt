@@ -1,6 +1,7 @@
 -- What the multistream calls answer, by their numbers and by what reading the streams answers.
 --     pad-no-streams .. pad-more        pad, by the number of streams and its lengths
 --     unpad-no-streams .. unpad-some    unpad likewise
+--     pad-refuses, unpad-refuses        lengths that no call takes
 --     pad-passed, unpad-passed          a call is passed the bits of its numbers
 --     pad-stuck, pad-last               pad, by what reading the first streams answers
 --     last-none, last-behind            the last stream, where no byte is left for it, and where it is lent from its place on
@@ -16,10 +17,11 @@ use lib.Seq.{sets, length-take-le, take-take}
 use mir.Syntax.{w32}
 use mir.Val.{toZ, ofZ, SFits}
 use mir.ValLaws.{toZ-ofZ}
-use borrow.Author.Tests.{eq-eqb, ne-eqb}
+use lib.Dec.{eqb}
+use borrow.Author.Tests.{eq-eqb, ne-eqb, eqb-true, eqb-false}
 use borrow.Rule.Slice.PartAt.{part-to-end}
 use borrow.Rule.Slice.PartMut.{putMid}
-use Rattle.laws.proofs.Never.{never}
+use Rattle.laws.proofs.Never.{never, by-test}
 use Rattle.blocks.proofs.Sets.{drop-take}
 use Rattle.opus_defines.specs.Outcome.{Effect, refusal, wrote, written, leaves, refuses}
 use Rattle.opus_defines.specs.declared.Refusal.{Refusal}
@@ -69,6 +71,19 @@ module _ (s : List ℕ) (len nb : ℤ) (k : ℕ) (e : streamsOf nb ≡ k) where
     pub unpad-some : (n ≡ 0 → ⊥) → streamsUnpadded s len nb ≡ leaves s (unpadStreams k (take n s))
     unfolding streamsUnpadded
     unpad-some z = rw (e, ne-eqb k 0 some, l, ne-eqb n 0 z)
+
+-- lengths that no call takes, whatever the number of streams
+pub pad-refuses : (s : List ℕ) (len new nb : ℤ) → lengthsOf s len new ≡ Bad → streamsPadded s len new nb ≡ refuses BadArg s
+pad-refuses s len new nb l =
+    by-test (eqb (streamsOf nb) 0)
+    (λ t. pad-no-streams s len new nb (streamsOf nb) refl (eqb-true (streamsOf nb) 0 t))
+    (λ t. pad-bad s len new nb (streamsOf nb) refl (eqb-false (streamsOf nb) 0 t) l)
+
+pub unpad-refuses : (s : List ℕ) (len nb : ℤ) → lengthOf s len ≡ 0 → streamsUnpadded s len nb ≡ refuses BadArg s
+unpad-refuses s len nb l =
+    by-test (eqb (streamsOf nb) 0)
+    (λ t. unpad-no-streams s len nb (streamsOf nb) refl (eqb-true (streamsOf nb) 0 t))
+    (λ t. unpad-none s len nb (streamsOf nb) refl (eqb-false (streamsOf nb) 0 t) 0 l refl)
 
 pub pad-passed : (s : List ℕ) (len new nb : ℤ) → SFits w32 len → SFits w32 new → SFits w32 nb
     → streamsPadded s len new nb ≡ streamsPadded s (toZ w32 (ofZ w32 len)) (toZ w32 (ofZ w32 new)) (toZ w32 (ofZ w32 nb))

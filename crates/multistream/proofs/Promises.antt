@@ -13,12 +13,14 @@ use Rattle.laws.proofs.Bytes.{bytes-take}
 use Rattle.laws.proofs.Never.{by-test}
 use Rattle.opus_defines.specs.Outcome.{writes}
 use Rattle.opus_defines.proofs.Outcomes.{refusal-keeps}
-use Rattle.packet_pad.specs.Lengths.{lengthOf, lengthsOf, bounded, byLengths}
+use Rattle.packet_pad.specs.Lengths.{lengthOf, Outside, lengthsOf, bounded, byLengths}
+use Rattle.packet_pad.proofs.Given.{length-outside, first-outside, new-outside}
 use Rattle.packet_pad.specs.Pad.{padsTo}
 use Rattle.multistream.specs.Streams.{streamsOf}
 use Rattle.multistream.specs.Pad.{padStreams, streamsPadded}
 use Rattle.multistream.specs.Unpad.{unpadStreams, streamsUnpadded}
 use Rattle.multistream.specs.Reading.{Stream, streams, readStreams, compactStreams}
+use Rattle.multistream.proofs.Calls.{pad-refuses, unpad-refuses}
 use Rattle.multistream.proofs.Written.{compact-within, unpad-compact, readable-some-bytes, pad-equal, pad-holds, pad-unpad}
 use Rattle.multistream.proofs.Holding.{compact-holds}
 use Rattle.multistream.proofs.Stages.{pad-stages, unpad-again}
@@ -81,3 +83,13 @@ pub refused-unpad-changes-nothing : (s : List ℕ) (len nb : ℤ) (n : ℕ) → 
 unfolding streamsUnpadded
 refused-unpad-changes-nothing s len nb n e =
     refusal-keeps s (bounded (λ k. bounded (λ n. unpadStreams k (take n s)) (lengthOf s len)) (streamsOf nb)) n e
+
+-- A length that is negative, 0, above the buffer or above 65,535 is refused by -1, whatever else is wrong.
+pub pad-length-outside : (s : List ℕ) (len new nb : ℤ) → Outside s len → streamsPadded s len new nb .number ≡ negsuc 0
+pad-length-outside s len new nb o = rw (pad-refuses s len new nb (first-outside s len new o))
+
+pub pad-new-length-outside : (s : List ℕ) (len new nb : ℤ) → Outside s new → streamsPadded s len new nb .number ≡ negsuc 0
+pad-new-length-outside s len new nb o = rw (pad-refuses s len new nb (new-outside s len new o))
+
+pub unpad-length-outside : (s : List ℕ) (len nb : ℤ) → Outside s len → streamsUnpadded s len nb .number ≡ negsuc 0
+unpad-length-outside s len nb o = rw (unpad-refuses s len nb (length-outside s len o))

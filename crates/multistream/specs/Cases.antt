@@ -101,10 +101,11 @@ unpadOrder =
 
 abbrev pub streamsOrder : List Case
 streamsOrder =
-    -- above the buffer, with no stream; no stream, and below 1; no stream or 256, and equal; equal, and unreadable, with 255
+    -- above the buffer, with no stream; no stream, and below 1; no stream, a negative number or 256, and equal; equal, and unreadable, with 255
     keeps (streamsPadded unreadable (pos 3) (pos 3) (pos 0)) (negsuc 0) unreadable
     ∷ keeps (streamsPadded unreadable (pos 0) (pos 0) (pos 0)) (negsuc 0) unreadable
     ∷ keeps (streamsPadded unreadable (pos 2) (pos 2) (pos 0)) (negsuc 0) unreadable
+    ∷ keeps (streamsPadded unreadable (pos 2) (pos 2) (negsuc 0)) (negsuc 0) unreadable
     ∷ keeps (streamsPadded unreadable (pos 2) (pos 2) (pos 256)) (negsuc 0) unreadable
     ∷ keeps (streamsPadded unreadable (pos 2) (pos 2) (pos 255)) (pos 0) unreadable
     -- below 1, and equal; above the new length, and unreadable; then unreadable, with 255; 256, and unreadable
@@ -112,9 +113,10 @@ streamsOrder =
     ∷ keeps (streamsPadded unreadable (pos 2) (pos 1) (pos 255)) (negsuc 0) unreadable
     ∷ keeps (streamsPadded (0x03 ∷ 0x00 ∷ 0x00 ∷ []) (pos 2) (pos 3) (pos 255)) (negsuc 3) (0x03 ∷ 0x00 ∷ 0x00 ∷ [])
     ∷ keeps (streamsPadded (0x03 ∷ 0x00 ∷ 0x00 ∷ []) (pos 2) (pos 3) (pos 256)) (negsuc 0) (0x03 ∷ 0x00 ∷ 0x00 ∷ [])
-    -- unpad: above the buffer, no stream, 256, or below 1, and unreadable; then unreadable, with 255
+    -- unpad: above the buffer, no stream, a negative number, 256, or below 1, and unreadable; then unreadable, with 255
     ∷ keeps (streamsUnpadded unreadable (pos 3) (pos 1)) (negsuc 0) unreadable
     ∷ keeps (streamsUnpadded unreadable (pos 2) (pos 0)) (negsuc 0) unreadable
+    ∷ keeps (streamsUnpadded unreadable (pos 2) (negsuc 0)) (negsuc 0) unreadable
     ∷ keeps (streamsUnpadded unreadable (pos 2) (pos 256)) (negsuc 0) unreadable
     ∷ keeps (streamsUnpadded unreadable (pos 0) (pos 1)) (negsuc 0) unreadable
     ∷ keeps (streamsUnpadded unreadable (pos 2) (pos 255)) (negsuc 3) unreadable

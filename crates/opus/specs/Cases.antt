@@ -1,19 +1,18 @@
 -- Document 01, 'Cases at the edges': those on lengths and on reading. Each is what a definition gives, and what the document says.
 -- Later crates add theirs to this list, so that one statement covers all of them.
-use Prim.Native.Nat.{ℕ}
-use mathlib.Core.List.{List, [], _∷_}
+use Prim.Native.Nat.{ℕ, _-_}
+use mathlib.Core.List.{List, [], _∷_, _++_}
 use mathlib.Core.Bool.{true, false}
 use lib.IntN.{ℤ, pos, negsuc}
 use lib.ListN.{length, replicate}
 use Rattle.opus_defines.specs.Numbers.{verdictNumber}
 use Rattle.opus_defines.specs.Outcome.{Outcome}
 use Rattle.opus_defines.specs.declared.Refusal.the-variants.{InvalidPacket}
-use Rattle.opus_defines.specs.declared.Verdict.the-variants.{Accepted}
+use Rattle.opus_defines.specs.declared.Verdict.the-variants.{Accepted, Refused}
 use Rattle.opus_toc.specs.Toc.{configuration, duration}
 use Rattle.opus_size.specs.Size.{lengthField}
 use Rattle.opus_size.specs.Answers.{encodeSize}
-use Rattle.opus_format.specs.Frames.{padded48}
-use Rattle.opus.specs.Answers.{noPacket, parsed}
+use Rattle.opus.specs.Answers.{parsed}
 use Rattle.opus.specs.declared.Packet.{Packet}
 
 -- what a case shows
@@ -34,14 +33,15 @@ shows given said = record { gives = given; says = said }
 abbrev pub reading : Packet → Shown
 reading p = packet (verdictNumber (pos (p .count)) (p .verdict)) p
 
--- a packet that is read: TOC byte, lengths, first frame's place, bytes taken
+-- a packet that is read: TOC byte, lengths and zeros past the count, first frame's place, bytes taken
 abbrev pub readAs : ℕ → List ℕ → ℕ → ℕ → Shown
 readAs toc ns first taken =
-    packet (pos (length ns)) (record { verdict = Accepted; toc = toc; count = length ns; lengths = padded48 ns; first = first; taken = taken })
+    packet (pos (length ns))
+    (record { verdict = Accepted; toc = toc; count = length ns; lengths = ns ++ replicate (48 - length ns) 0; first = first; taken = taken })
 
--- -4
+-- -4, and zeros
 abbrev pub invalid : Shown
-invalid = packet (negsuc 3) (noPacket InvalidPacket)
+invalid = packet (negsuc 3) (record { verdict = Refused InvalidPacket; toc = 0; count = 0; lengths = replicate 48 0; first = 0; taken = 0 })
 
 abbrev pub readingCases : List Case
 readingCases =
