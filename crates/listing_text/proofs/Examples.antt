@@ -1,13 +1,16 @@
--- Listings by computation: document 01's example, 03 02 AA BB, and the same without its bytes (document 02, M-104).
+-- Listings by computation: document 01's example, 03 02 AA BB, the same without its bytes (document 02, M-104), and what is refused.
 -- Assumes nothing.
-use Prim.Native.Nat.{ℕ}
+use Prim.Native.Nat.{ℕ, _<_}
 use mathlib.Core.Path.{_≡_, refl}
 use mathlib.Core.List.{List, [], _∷_}
+use lib.ListN.{length}
+use borrow.Author.Tests.{lt-ltb}
+use Rattle.opus_defines.specs.Rules.{ruleRefusal}
 use Rattle.opus_toc.specs.Toc.{duration, samples}
 use Rattle.opus_format.specs.Reading.{read}
 use Rattle.opus_header.specs.Header.{header}
 use Rattle.opus_header.specs.Compact.{compact}
-use Rattle.show.specs.Text.{places, decimal}
+use Rattle.show.specs.Text.{places, decimal, integer, refusedLabel, refusal}
 use Rattle.listing_text.specs.Labels.{tocLabel, countLabel, timeLabel, payloadLabel, packetLabel, compactLabel, frameLabel, atLabel, lengthLabel}
 use Rattle.listing_text.specs.Listing.{line, frameLine, frameLines, times, sizes, packetText, listed, listing}
 
@@ -48,3 +51,13 @@ pub silence-takes-time : listing (3 ∷ 2 ∷ []) ≡ silence
 unfolding silence listing listed packetText times sizes line frameLines frameLine decimal places read compact header duration samples
     tocLabel countLabel timeLabel payloadLabel packetLabel compactLabel frameLabel atLabel lengthLabel
 silence-takes-time = refl
+
+-- "refused -4" for a packet that cannot be read, "refused -1" for any above 65,535 bytes
+pub unreadable-listing : listing [] ≡ 114 ∷ 101 ∷ 102 ∷ 117 ∷ 115 ∷ 101 ∷ 100 ∷ 32 ∷ 45 ∷ 52 ∷ 10 ∷ []
+unfolding listing listed read ruleRefusal refusal refusedLabel integer decimal places
+unreadable-listing = refl
+
+pub too-long-listing : (p : List ℕ) → 65535 < length p
+    → listing p ≡ 114 ∷ 101 ∷ 102 ∷ 117 ∷ 115 ∷ 101 ∷ 100 ∷ 32 ∷ 45 ∷ 49 ∷ 10 ∷ []
+unfolding listing refusal refusedLabel integer decimal places
+too-long-listing p h = rw (lt-ltb 65535 (length p) h)
