@@ -23,7 +23,7 @@ use Rattle.repacketizer.specs.declared.OpusRepacketizer.{OpusRepacketize
 use Rattle.repacketizer.specs.Collector.{heldLengths, held, sound}
 use Rattle.repacketizer.specs.Adding.{goesWith, adds, added, addedNumber}
 use Rattle.repacketizer.specs.Runs.{State, Ready, Empty, Arrival, AllBytes, SameSix, afterAdds, framesAccepted}
-use Rattle.repacketizer.proofs.Adds.{taken, block-refused, block-added, add-empty, refused-keeps}
+use Rattle.repacketizer.proofs.Adds.{block-refused, block-added, add-empty, refused-keeps}
 use Rattle.repacketizer.proofs.Adds.{add-unsound, add-tight, add-sound, add-long, add-refused, add-read}
 use Rattle.repacketizer.proofs.Kept.{add-took, first-sets, later-keeps, lengths-stay, bytes-stay}
 use Rattle.repacketizer.proofs.Runs.{empty-ready, empty-held, runs-ready, runs-held, runs-six}
@@ -104,24 +104,21 @@ module _ (sd : Bool) (rp : OpusRepacketizer) (p store : List ℕ) where
 -- keep both; no length but those of its frames changes, and no byte of the store but those that it copies.
 module _ (sd : Bool) (rp : OpusRepacketizer) (p store : List ℕ) (toc : ℕ) (ns : List ℕ) (first end : ℕ) (r : read sd p ≡ accepted toc ns first end)
     (v : added sd rp p store .answer .verdict ≡ Accepted) where
-  did : added sd rp p store ≡ taken rp toc ns p first store
-  did = add-took sd rp p store toc ns first end r v
-
   pub add-counts : added sd rp p store .answer .rp .«nb_frames» ≡ rp .«nb_frames» + length ns
-  add-counts = rw did
+  add-counts = rw (add-took sd rp p store toc ns first end r v)
 
   pub first-packet-sets : rp .«nb_frames» ≡ 0
       → let a = added sd rp p store .answer .rp in (a .toc ≡ toc) × (a .framesize .0 ≡ samples 8000 (configuration toc))
-  first-packet-sets e = rw did (first-sets rp toc ns e)
+  first-packet-sets e = rw (add-took sd rp p store toc ns first end r v) (first-sets rp toc ns e)
 
   pub later-packet-keeps : (rp .«nb_frames» ≡ 0 → ⊥)
       → let a = added sd rp p store .answer .rp in (a .toc ≡ rp .toc) × (a .framesize ≡ rp .framesize)
-  later-packet-keeps z = rw did (later-keeps rp toc ns z)
+  later-packet-keeps z = rw (add-took sd rp p store toc ns first end r v) (later-keeps rp toc ns z)
 
   pub other-lengths-stay : (k : ℕ) → (k < rp .«nb_frames») ⊎ (rp .«nb_frames» + length ns ≤ k)
       → getD (added sd rp p store .answer .rp .len) k 0 ≡ getD (rp .len) k 0
-  other-lengths-stay k o = rw did (lengths-stay rp toc ns k o)
+  other-lengths-stay k o = rw (add-took sd rp p store toc ns first end r v) (lengths-stay rp toc ns k o)
 
   pub other-bytes-stay : (k : ℕ) → (k < total (heldLengths rp)) ⊎ (total (heldLengths rp) + total ns ≤ k)
       → getD (added sd rp p store .store) k 0 ≡ getD store k 0
-  other-bytes-stay k o = rw did (bytes-stay store (total (heldLengths rp)) p first (total ns) k o)
+  other-bytes-stay k o = rw (add-took sd rp p store toc ns first end r v) (bytes-stay store (total (heldLengths rp)) p first (total ns) k o)

@@ -1,0 +1,45 @@
+-- The records that C sees, by computation: document 01's cases with every field, and zeros beside a refusal.
+-- Assumes nothing.
+use Prim.Native.Nat.{ℕ}
+use mathlib.Core.Path.{_≡_, refl}
+use mathlib.Core.List.{List, [], _∷_, _++_}
+use mathlib.Core.Bool.{true, false}
+use lib.IntN.{ℤ, pos, negsuc}
+use lib.ListN.{replicate}
+use Rattle.opus_defines.specs.Rules.{ruleRefusal}
+use Rattle.opus_toc.specs.Toc.{duration}
+use Rattle.opus_size.specs.Answers.{parseSize}
+use Rattle.opus_format.specs.Reading.{read}
+use Rattle.opus.specs.Answers.{parsed}
+use Rattle.capture.specs.Finding.{packetLength, before, recordFrom, nextRecord}
+use Rattle.aveluafi.specs.Records.{sizeRecord, packetRecord, captureRecord}
+use Rattle.aveluafi.specs.declared.reading.AveluafiSize.{AveluafiSize}
+use Rattle.aveluafi.specs.declared.reading.AveluafiPacket.{AveluafiPacket}
+use Rattle.aveluafi.specs.declared.captures.AveluafiRecord.{AveluafiRecord}
+
+-- FC 01 is 256 in two bytes; cut short it is -1
+pub sizes-in-c : sizeRecord (parseSize (0xfc ∷ 0x01 ∷ [])) ∷ sizeRecord (parseSize (0xfc ∷ [])) ∷ []
+    ≡ record { number = pos 2; size = 256 } ∷ record { number = negsuc 0; size = 0 } ∷ []
+unfolding parseSize
+sizes-in-c = refl
+
+-- self-delimited 07 02 01 AA BB 55: two frames of a byte from place 3 on, 5 bytes taken; 03 00 cannot be read
+pub packet-in-c : packetRecord (parsed true (0x07 ∷ 0x02 ∷ 0x01 ∷ 0xaa ∷ 0xbb ∷ 0x55 ∷ []))
+    ≡ record { number = pos 2; toc = 7; lengths = 1 ∷ 1 ∷ replicate 46 0; «payload_offset» = 3; «packet_offset» = 5 }
+unfolding parsed read duration
+packet-in-c = refl
+
+pub refused-in-c : packetRecord (parsed false (0x03 ∷ 0x00 ∷ []))
+    ≡ record { number = negsuc 3; toc = 0; lengths = replicate 48 0; «payload_offset» = 0; «packet_offset» = 0 }
+unfolding parsed read duration ruleRefusal
+refused-in-c = refl
+
+-- two bytes, and a record of line 65 with 3 bytes, asked for from place 1; a start past the end
+abbrev sample : List ℕ
+sample = 9 ∷ 9 ∷ 0x4B ∷ 0x9D ∷ 65 ∷ 0 ∷ 3 ∷ 7 ∷ 8 ∷ 9 ∷ []
+
+pub records-in-c : captureRecord (nextRecord sample 1) ∷ captureRecord (nextRecord sample 11) ∷ []
+    ≡ record { number = pos 0; line = 65; place = 2; length = 3; passed = 1 }
+    ∷ record { number = negsuc 0; line = 0; place = 0; length = 0; passed = 0 } ∷ []
+unfolding nextRecord recordFrom before packetLength
+records-in-c = refl
