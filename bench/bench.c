@@ -120,7 +120,7 @@ static int libopus_read_self(const struct set *s) {
 static int ours_pack(const struct set *s) {
     aveluafi_repacketizer_init(&our_rp);
     for (int i = 0; i < s->packets; i++) {
-        int r = aveluafi_repacketizer_cat(&our_rp, s->packet[i], s->len[i], store, sizeof store);
+        int r = aveluafi_repacketizer_cat(&our_rp, s->packet[i], s->len[i], store, sizeof store).number;
         if (r != 0) return r;
     }
     return aveluafi_repacketizer_out(&our_rp, store, sizeof store, buffer, ROOM);
@@ -142,19 +142,19 @@ static int libopus_pack(const struct set *s) {
     return opus_repacketizer_out(libopus_rp, buffer, ROOM);
 }
 
-static int ours_unpad(const struct set *s) { return aveluafi_packet_unpad(buffer, ROOM, s->len[0]); }
+static int ours_unpad(const struct set *s) { return aveluafi_packet_unpad(buffer, ROOM, s->len[0]).number; }
 static int crate_unpad(const struct set *s) { return crate_packet_unpad(buffer, s->len[0]); }
 static int libopus_unpad(const struct set *s) { return opus_packet_unpad(buffer, s->len[0]); }
 
-static int ours_pad(const struct set *s) { return aveluafi_packet_pad(buffer, ROOM, s->len[0], s->new_len); }
+static int ours_pad(const struct set *s) { return aveluafi_packet_pad(buffer, ROOM, s->len[0], s->new_len).number; }
 static int crate_pad(const struct set *s) { return crate_packet_pad(buffer, s->len[0], s->new_len); }
 static int libopus_pad(const struct set *s) { return opus_packet_pad(buffer, s->len[0], s->new_len); }
 
-static int ours_streams_unpad(const struct set *s) { return aveluafi_multistream_packet_unpad(buffer, ROOM, s->len[0], s->streams); }
+static int ours_streams_unpad(const struct set *s) { return aveluafi_multistream_packet_unpad(buffer, ROOM, s->len[0], s->streams).number; }
 static int crate_streams_unpad(const struct set *s) { return crate_multistream_packet_unpad(buffer, s->len[0], s->streams); }
 static int libopus_streams_unpad(const struct set *s) { return opus_multistream_packet_unpad(buffer, s->len[0], s->streams); }
 
-static int ours_streams_pad(const struct set *s) { return aveluafi_multistream_packet_pad(buffer, ROOM, s->len[0], s->new_len, s->streams); }
+static int ours_streams_pad(const struct set *s) { return aveluafi_multistream_packet_pad(buffer, ROOM, s->len[0], s->new_len, s->streams).number; }
 static int crate_streams_pad(const struct set *s) { return crate_multistream_packet_pad(buffer, s->len[0], s->new_len, s->streams); }
 static int libopus_streams_pad(const struct set *s) { return opus_multistream_packet_pad(buffer, s->len[0], s->new_len, s->streams); }
 

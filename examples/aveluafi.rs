@@ -1,13 +1,14 @@
-//! A safe Rust face of include/aveluafi.h: slices in the place of pointers and counts, refusals as an enum. No call panics or allocates,
+//! A safe Rust face of include/aveluafi.h: slices in the place of pointers and counts, refusals as an enum with words. No call panics or allocates,
 //! whatever it is given, and a refused one has changed nothing. The calls that are left out go the same way.
 //!
 //! Why `unsafe` is right here: a slice's pointer is never null and names as many bytes as it says; `&mut` rules out that two arguments
 //! overlap or that another thread writes to them; and no call keeps a pointer.
 
+use std::fmt;
 use std::ops::Range;
 
 /// The header's AVELUAFI_VERSION: the archive that is linked must answer the same (`version`).
-pub const VERSION: i32 = 1;
+pub const VERSION: i32 = 2;
 
 pub const MOST_FRAMES: usize = 48;
 pub const LEAST_STORE: usize = 61200;
@@ -17,7 +18,13 @@ pub const LEAST_STORE: usize = 61200;
 pub enum Refusal {
     BadArg,
     BufferTooSmall,
+    /// Other upper six TOC bits than those held, or over 120 ms together with them.
     InvalidPacket,
+    /// A packet that breaks a rule of RFC 6716, 1 to 8, and the place of the first byte of the field concerned, from the first byte that was lent.
+    Unreadable {
+        rule: u16,
+        place: u16,
+    },
     InvalidState,
     /// A number that this file does not know: the archive that was linked is of another version.
     Unknown(i32),
@@ -29,12 +36,27 @@ impl Refusal {
         match self {
             Refusal::BadArg => -1,
             Refusal::BufferTooSmall => -2,
-            Refusal::InvalidPacket => -4,
+            Refusal::InvalidPacket | Refusal::Unreadable { .. } => -4,
             Refusal::InvalidState => -6,
             Refusal::Unknown(number) => number,
         }
     }
 }
+
+impl fmt::Display for Refusal {
+    fn fmt(&self, f: &mut fmt::Formatter) -> fmt::Result {
+        match self {
+            Refusal::BadArg => write!(f, "bad argument"),
+            Refusal::BufferTooSmall => write!(f, "buffer too small"),
+            Refusal::InvalidPacket => write!(f, "invalid packet: it does not go with the frames held"),
+            Refusal::Unreadable { rule, place } => write!(f, "invalid packet: RFC 6716 rule R{rule} at byte {place}"),
+            Refusal::InvalidState => write!(f, "invalid state of the collector"),
+            Refusal::Unknown(number) => write!(f, "refused by {number}, a number of another version"),
+        }
+    }
+}
+
+impl std::error::Error for Refusal {}
 
 fn answer(number: i32) -> Result<usize, Refusal> {
     match number {
@@ -44,6 +66,20 @@ fn answer(number: i32) -> Result<usize, Refusal> {
         -4 => Err(Refusal::InvalidPacket),
         -6 => Err(Refusal::InvalidState),
         _ => Err(Refusal::Unknown(number)),
+    }
+}
+
+#[repr(C)]
+struct Report {
+    number: i32,
+    rule: u16,
+    place: u16,
+}
+
+fn reported(r: Report) -> Result<usize, Refusal> {
+    match r {
+        Report { number: -4, rule: rule @ 1.., place } => Err(Refusal::Unreadable { rule, place }),
+        _ => answer(r.number),
     }
 }
 
@@ -64,8 +100,10 @@ struct Repacketizer {
 #[repr(C)]
 pub struct Packet {
     number: i32,
-    pub toc: u8,
+    rule: u16,
+    place: u16,
     lengths: [u16; MOST_FRAMES],
+    pub toc: u8,
     payload_offset: usize,
     /// Bytes taken, padding included.
     pub packet_offset: usize,
@@ -85,7 +123,7 @@ extern "C" {
     fn aveluafi_version() -> i32;
     fn aveluafi_packet_parse_impl(data: *const u8, data_len: usize, self_delimited: bool) -> Packet;
     fn aveluafi_repacketizer_init(rp: *mut Repacketizer);
-    fn aveluafi_repacketizer_cat(rp: *mut Repacketizer, data: *const u8, data_len: usize, store: *mut u8, store_len: usize) -> i32;
+    fn aveluafi_repacketizer_cat(rp: *mut Repacketizer, data: *const u8, data_len: usize, store: *mut u8, store_len: usize) -> Report;
     fn aveluafi_repacketizer_get_nb_frames(rp: *const Repacketizer) -> i32;
     fn aveluafi_repacketizer_out(rp: *const Repacketizer, store: *const u8, store_len: usize, data: *mut u8, data_len: usize) -> i32;
     fn aveluafi_repacketizer_out_range(
@@ -97,8 +135,8 @@ extern "C" {
         data: *mut u8,
         data_len: usize,
     ) -> i32;
-    fn aveluafi_packet_pad(data: *mut u8, data_len: usize, len: i32, new_len: i32) -> i32;
-    fn aveluafi_packet_unpad(data: *mut u8, data_len: usize, len: i32) -> i32;
+    fn aveluafi_packet_pad(data: *mut u8, data_len: usize, len: i32, new_len: i32) -> Report;
+    fn aveluafi_packet_unpad(data: *mut u8, data_len: usize, len: i32) -> Report;
     fn aveluafi_next_record(data: *const u8, data_len: usize, start: usize) -> RawRecord;
 }
 
@@ -110,7 +148,7 @@ pub fn version() -> i32 {
 /// Reads the packet at the front of `data`: an ordinary one takes all of it, a self-delimited one ends where it says.
 pub fn read(data: &[u8], self_delimited: bool) -> Result<Packet, Refusal> {
     let packet = unsafe { aveluafi_packet_parse_impl(data.as_ptr(), data.len(), self_delimited) };
-    answer(packet.number).map(|_| packet)
+    reported(Report { number: packet.number, rule: packet.rule, place: packet.place }).map(|_| packet)
 }
 
 impl Packet {
@@ -128,12 +166,12 @@ impl Packet {
 /// Makes the packet in the first `len` bytes fill `data`.
 pub fn pad(data: &mut [u8], len: usize) -> Result<(), Refusal> {
     let new_len = length(data.len());
-    answer(unsafe { aveluafi_packet_pad(data.as_mut_ptr(), data.len(), length(len), new_len) }).map(|_| ())
+    reported(unsafe { aveluafi_packet_pad(data.as_mut_ptr(), data.len(), length(len), new_len) }).map(|_| ())
 }
 
 /// Strips the padding of the packet that fills `data`, and answers the bytes that are left in its front.
 pub fn unpad(data: &mut [u8]) -> Result<usize, Refusal> {
-    answer(unsafe { aveluafi_packet_unpad(data.as_mut_ptr(), data.len(), length(data.len())) })
+    reported(unsafe { aveluafi_packet_unpad(data.as_mut_ptr(), data.len(), length(data.len())) })
 }
 
 /// Frames of one kind, at most 120 ms, copied into a borrowed store.
@@ -151,7 +189,7 @@ impl<'a> Collector<'a> {
     /// Adds the frames of an ordinary packet behind those held.
     pub fn add(&mut self, packet: &[u8]) -> Result<(), Refusal> {
         let (store, n) = (self.store.as_mut_ptr(), self.store.len());
-        answer(unsafe { aveluafi_repacketizer_cat(&mut self.rp, packet.as_ptr(), packet.len(), store, n) }).map(|_| ())
+        reported(unsafe { aveluafi_repacketizer_cat(&mut self.rp, packet.as_ptr(), packet.len(), store, n) }).map(|_| ())
     }
     pub fn held(&self) -> usize {
         answer(unsafe { aveluafi_repacketizer_get_nb_frames(&self.rp) }).unwrap_or(0)

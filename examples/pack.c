@@ -1,4 +1,4 @@
-/* Packs three packets into one, sees a fourth refused, pads and strips the packet in place, reads its frames back and cuts one out again, over
+/* Packs three packets into one, sees two others refused, pads and strips the packet in place, reads its frames back and cuts one out again, over
  * include/aveluafi.h. examples/run builds and runs it; pack.rs does the same in Rust and prints the same text. */
 #include "aveluafi.h"
 
@@ -27,6 +27,13 @@ static int32_t need(const char *call, int32_t number) {
     return number;
 }
 
+/* The same of a call that reads a packet, whose refusal may name a rule of RFC 6716 and the byte. */
+static int32_t needs(const char *call, struct aveluafi_report r) {
+    if (r.rule > 0)
+        fprintf(stderr, "%s: RFC 6716 rule R%d at byte %d\n", call, r.rule, r.place);
+    return need(call, r.number);
+}
+
 static const char *same(const uint8_t *a, const uint8_t *b, size_t n) {
     return memcmp(a, b, n) == 0 ? "as added" : "NOT as added";
 }
@@ -49,7 +56,7 @@ int main(void) {
     aveluafi_repacketizer_init(&rp);
     for (int i = 0; i < 3; i++) {
         make(packets[i], bytes[i], TOC, (uint8_t)(0xa1 + i));
-        need("cat", aveluafi_repacketizer_cat(&rp, packets[i], (size_t)bytes[i], store, sizeof store));
+        needs("cat", aveluafi_repacketizer_cat(&rp, packets[i], (size_t)bytes[i], store, sizeof store));
         int held = aveluafi_repacketizer_get_nb_frames(&rp);
         printf("added %d bytes: %d frame%s held\n", bytes[i], held, held == 1 ? "" : "s");
         before += bytes[i];
@@ -58,8 +65,13 @@ int main(void) {
     /* A refusal changes nothing: the collector and its store are as they were, and can be used on. */
     uint8_t other[30];
     make(other, sizeof other, TOC | STEREO, 0xdd);
-    int32_t number = aveluafi_repacketizer_cat(&rp, other, sizeof other, store, sizeof store);
-    printf("refused a packet with other TOC bits: %d, still %d frames held\n", (int)number, (int)aveluafi_repacketizer_get_nb_frames(&rp));
+    struct aveluafi_report r = aveluafi_repacketizer_cat(&rp, other, sizeof other, store, sizeof store);
+    printf("refused a packet with other TOC bits: %d, still %d frames held\n", (int)r.number, (int)aveluafi_repacketizer_get_nb_frames(&rp));
+
+    /* A packet that cannot be read: the rule that it breaks, and the byte. Here the length of the first of two frames is cut short. */
+    static const uint8_t broken[2] = {TOC | 2, 252};
+    r = aveluafi_repacketizer_cat(&rp, broken, sizeof broken, store, sizeof store);
+    printf("refused a packet that is cut short: invalid packet: RFC 6716 rule R%d at byte %d\n", r.rule, r.place);
 
     /* All frames held, as one packet in its shortest form. */
     int32_t packed = need("out", aveluafi_repacketizer_out(&rp, store, sizeof store, buffer, sizeof buffer));
@@ -68,9 +80,9 @@ int main(void) {
     printf("reclaimed %d bytes on the wire: 2 headers of %d bytes fewer, %d byte more in the packet\n", 2 * HEADERS - more, HEADERS, more);
 
     /* Padding, as a sender at a constant rate adds it, and the same packet stripped of it where it stands. */
-    need("pad", aveluafi_packet_pad(buffer, sizeof buffer, packed, sizeof buffer));
+    needs("pad", aveluafi_packet_pad(buffer, sizeof buffer, packed, sizeof buffer));
     printf("padded to %d bytes\n", (int)sizeof buffer);
-    int32_t stripped = need("unpad", aveluafi_packet_unpad(buffer, sizeof buffer, sizeof buffer));
+    int32_t stripped = needs("unpad", aveluafi_packet_unpad(buffer, sizeof buffer, sizeof buffer));
     printf("stripped to %d bytes in place\n", (int)stripped);
     printf("reclaimed %d bytes of padding\n", (int)sizeof buffer - (int)stripped);
 

@@ -1,4 +1,4 @@
-//! Packs three packets into one, sees a fourth refused, pads and strips the packet in place, reads its frames back and cuts one out again,
+//! Packs three packets into one, sees two others refused, pads and strips the packet in place, reads its frames back and cuts one out again,
 //! through the safe wrapper in aveluafi.rs. examples/run builds and runs it; pack.c does the same in C and prints the same text.
 
 #[allow(dead_code)]
@@ -44,6 +44,11 @@ fn main() -> Result<(), Refusal> {
     // A refusal changes nothing: the collector and its store are as they were, and can be used on.
     if let Err(refusal) = collector.add(&make(30, TOC | STEREO, 0xdd)) {
         println!("refused a packet with other TOC bits: {}, still {} frames held", refusal.number(), collector.held());
+    }
+
+    // A packet that cannot be read: the rule that it breaks, and the byte. Here the length of the first of two frames is cut short.
+    if let Err(refusal) = collector.add(&[TOC | 2, 252]) {
+        println!("refused a packet that is cut short: {}", refusal);
     }
 
     // All frames held, as one packet in its shortest form.

@@ -11,7 +11,7 @@ enum { MOST_CAPTURE = 1 << 20 };
 static int32_t stripped(const uint8_t *packet, size_t n) {
     static uint8_t copy[AVELUAFI_MOST_PACKET];
     memcpy(copy, packet, n);
-    return aveluafi_packet_unpad(copy, n, (int32_t)n);
+    return aveluafi_packet_unpad(copy, n, (int32_t)n).number;
 }
 
 static void show(const uint8_t *capture, struct aveluafi_record r) {
@@ -19,7 +19,7 @@ static void show(const uint8_t *capture, struct aveluafi_record r) {
     printf("record at %zu: line %d, %zu bytes, ", r.place, r.line, r.length);
     struct aveluafi_packet p = aveluafi_packet_parse(packet, r.length);
     if (p.number < 0)
-        printf("not a packet (%d)\n", (int)p.number);
+        printf("invalid packet: RFC 6716 rule R%d at byte %d\n", p.rule, p.place);
     else
         printf("%d frame%s, %d without padding\n", (int)p.number, p.number == 1 ? "" : "s", (int)stripped(packet, r.length));
 }

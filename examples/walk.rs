@@ -9,7 +9,7 @@ use std::io::Read;
 fn show(r: &Record) {
     print!("record at {}: line {}, {} bytes, ", r.place, r.line, r.packet.len());
     match read(r.packet, false) {
-        Err(refusal) => println!("not a packet ({})", refusal.number()),
+        Err(refusal) => println!("{}", refusal),
         Ok(p) => {
             let frames = p.frames().count();
             let without = unpad(&mut r.packet.to_vec()).expect("a packet that can be read can be stripped");

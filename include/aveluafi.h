@@ -30,9 +30,13 @@ extern "C" {
 /* ---- the version of this header
  *
  * At start, compare: `if (aveluafi_version() != AVELUAFI_VERSION)` the archive that was linked is not the one that this header declares, and
- * nothing that it answers can be relied on. The number is raised whenever a declaration here changes. */
+ * nothing that it answers can be relied on. The number is raised whenever a declaration here changes.
+ *
+ * 2: a refusal names the rule of RFC 6716 and the byte. aveluafi_repacketizer_cat, pad, unpad and their multistream kin answer a struct aveluafi_report
+ *    in the place of a number; struct aveluafi_packet and struct aveluafi_size have rule and place, in another order; aveluafi_parse_size is told a rule.
+ * 1: the first. */
 
-#define AVELUAFI_VERSION 1
+#define AVELUAFI_VERSION 2
 
 int32_t aveluafi_version(void);
 
@@ -45,6 +49,32 @@ int32_t aveluafi_version(void);
 #define AVELUAFI_INVALID_PACKET (-4)  /* the packet breaks a rule of RFC 6716; its upper six TOC bits are not those held; over 120 ms held */
 #define AVELUAFI_INVALID_STATE (-6)   /* the collector was not made by these calls, or was written over */
 
+/* ---- rule and place: which rule of RFC 6716, section 3.4, a packet breaks, and where
+ *
+ * Where a packet cannot be read, -4 comes with a rule, 1 to 8, and the place of the first byte of the field concerned, counted from the first byte of the
+ * buffer that was lent: 0 to the length of the packet, which is a place behind its last byte. Beside any other answer both are 0: also beside the -4 for
+ * other TOC bits, or for a total over 120 ms that is not the packet's own. (The length reader's -1 has a rule too.)
+ *
+ *   1  R1  no byte at all; at its place, 0, or in a multistream packet where the stream should begin
+ *   2  R2  a frame whose length is not written, but left over, would have over 1275 bytes; behind the last field, for codes 0 and 1 at byte 1
+ *   3  R3  code 1: the bytes left do not divide by two; at the TOC byte
+ *   4  R4  code 2: the first length is cut short or longer than what is behind it; at that length
+ *   5  R5  code 3: the count byte is missing, says 0 frames or over 120 ms; at byte 1
+ *   6  R6  code 3, equal lengths: the padding does not fit, at byte 2; or the bytes left do not divide by the count, behind the last field
+ *   7  R7  code 3, own lengths: the padding does not fit, at byte 2; or a length is cut short or longer than what is behind it, at that length; or the
+ *          lengths are too long only together, behind the last one
+ *   8      self-delimited: the last length is cut short or too long; at that length
+ */
+
+#define AVELUAFI_MOST_RULE 8
+
+/* What a call answers that reads packets, returned in a register. */
+struct aveluafi_report {
+    int32_t number;                   /* 0, a count of bytes, or the refusal */
+    uint16_t rule;
+    uint16_t place;
+};
+
 /* ---- bounds */
 
 #define AVELUAFI_MOST_PACKET 65535    /* bytes of a packet, of a destination, of a padded length */
@@ -56,14 +86,17 @@ int32_t aveluafi_version(void);
 
 struct aveluafi_size {
     int32_t number;                   /* the bytes of the field (1 or 2), or the refusal */
+    uint16_t rule;                    /* the rule that was told, where the field is cut short */
+    uint16_t place;                   /* of the field: 0, the front of data */
     uint16_t size;                    /* the length; 0 beside a refusal */
 };
 
 /* Writes the field of a length of 0 to 1275 at the front of data, and answers its bytes. -1 for another size, -2 where data_len is too short. */
 int32_t aveluafi_encode_size(int32_t size, uint8_t *data, size_t data_len);
 
-/* Reads the length at the front of data. -1 where the field is cut short. */
-struct aveluafi_size aveluafi_parse_size(const uint8_t *data, size_t data_len);
+/* Reads the length at the front of data, told which rule asks for it: 4, 7 or 8. -1 for another rule, with rule 0; then -1 where the field is cut short,
+ * with the rule that was told. */
+struct aveluafi_size aveluafi_parse_size(const uint8_t *data, size_t data_len, uint16_t rule);
 
 /* ---- the TOC byte (RFC 6716, 3.1) */
 
@@ -76,14 +109,16 @@ int32_t aveluafi_packet_get_nb_frames(const uint8_t *data, size_t data_len);
 /* ---- the packet reader (RFC 6716, 3.2 to 3.4 and appendix B) */
 
 struct aveluafi_packet {
-    int32_t number;                   /* the frames, 1 to 48, or the refusal; beside a refusal every other field is 0 */
-    uint8_t toc;
+    int32_t number;                   /* the frames, 1 to 48, or the refusal; beside a refusal every field behind rule and place is 0 */
+    uint16_t rule;
+    uint16_t place;
     uint16_t lengths[AVELUAFI_MOST_FRAMES]; /* of each frame; 0 past the last */
+    uint8_t toc;
     size_t payload_offset;            /* where the first frame stands; each next frame stands right behind the one before */
     size_t packet_offset;             /* the bytes taken, padding included */
 };
 
-/* Reads an ordinary packet, which takes all of data. -1 above 65,535 bytes, -4 where a rule fails. */
+/* Reads an ordinary packet, which takes all of data. -1 above 65,535 bytes, -4 with rule and place where a rule fails. */
 struct aveluafi_packet aveluafi_packet_parse(const uint8_t *data, size_t data_len);
 
 /* The same in the named delimiting. A self-delimited packet ends where it says; bytes behind it are not looked at. */
@@ -110,9 +145,9 @@ struct aveluafi_repacketizer {
 /* Makes any memory of this size an empty collector; a reset is the same. */
 void aveluafi_repacketizer_init(struct aveluafi_repacketizer *rp);
 
-/* Adds an ordinary packet, and answers 0. -4 for one that cannot be read, whose upper six TOC bits are not those held, or that would make
- * the frames held last over 120 ms. */
-int32_t aveluafi_repacketizer_cat(struct aveluafi_repacketizer *rp, const uint8_t *data, size_t data_len, uint8_t *store, size_t store_len);
+/* Adds an ordinary packet, and answers 0. -4 without a rule for one whose upper six TOC bits are not those held, broken or not, or that would make the
+ * frames held last over 120 ms; -4 with rule and place for one that cannot be read. */
+struct aveluafi_report aveluafi_repacketizer_cat(struct aveluafi_repacketizer *rp, const uint8_t *data, size_t data_len, uint8_t *store, size_t store_len);
 
 /* The frames held. */
 int32_t aveluafi_repacketizer_get_nb_frames(const struct aveluafi_repacketizer *rp);
@@ -132,20 +167,20 @@ int32_t aveluafi_repacketizer_out_range_impl(const struct aveluafi_repacketizer 
 /* ---- pad and unpad, in place
  *
  * data_len is the whole buffer; len, the packet in its front; new_len, the length asked for. -1 for a length below 1, above the buffer or above
- * 65,535, and where new_len is below len. */
+ * 65,535, and where new_len is below len. -4 with rule and place for a packet that cannot be read. */
 
-/* Makes the packet new_len bytes long, and answers 0; equal lengths answer 0 without a look at the packet. -4 for one that cannot be read. */
-int32_t aveluafi_packet_pad(uint8_t *data, size_t data_len, int32_t len, int32_t new_len);
+/* Makes the packet new_len bytes long, and answers 0; equal lengths answer 0 without a look at the packet. */
+struct aveluafi_report aveluafi_packet_pad(uint8_t *data, size_t data_len, int32_t len, int32_t new_len);
 
-/* Strips the padding, in the shortest form, and answers the bytes of the packet, which is never longer than it was. Bytes past it stay. -4 for one
- * that cannot be read. */
-int32_t aveluafi_packet_unpad(uint8_t *data, size_t data_len, int32_t len);
+/* Strips the padding, in the shortest form, and answers the bytes of the packet, which is never longer than it was. Bytes past it stay. */
+struct aveluafi_report aveluafi_packet_unpad(uint8_t *data, size_t data_len, int32_t len);
 
-/* The same for nb_streams packets, 1 to 255, all but the last self-delimited. Padding goes into the last stream. -1 for another number of streams. */
-int32_t aveluafi_multistream_packet_pad(uint8_t *data, size_t data_len, int32_t len, int32_t new_len, int32_t nb_streams);
+/* The same for nb_streams packets, 1 to 255, all but the last self-delimited. Padding goes into the last stream. -1 for another number of streams, and
+ * where no byte is left for the last. The place is counted from the first byte of data, whichever stream breaks the rule. */
+struct aveluafi_report aveluafi_multistream_packet_pad(uint8_t *data, size_t data_len, int32_t len, int32_t new_len, int32_t nb_streams);
 
 /* Every stream is brought into its shortest form; answers the bytes of all. All streams are read before the first is rewritten. */
-int32_t aveluafi_multistream_packet_unpad(uint8_t *data, size_t data_len, int32_t len, int32_t nb_streams);
+struct aveluafi_report aveluafi_multistream_packet_unpad(uint8_t *data, size_t data_len, int32_t len, int32_t nb_streams);
 
 /* ---- capture files
  *

@@ -7,8 +7,9 @@ use mathlib.Core.Bool.{true, false}
 use lib.IntN.{ℤ, pos, negsuc}
 use lib.ListN.{replicate}
 use Rattle.opus_defines.specs.Rules.{ruleRefusal}
+use Rattle.opus_defines.specs.declared.Report.{Report}
 use Rattle.opus_toc.specs.Toc.{duration}
-use Rattle.opus_size.specs.Answers.{parseSize}
+use Rattle.opus_size.specs.Answers.{sizeTold, parseSize}
 use Rattle.opus_format.specs.Reading.{read}
 use Rattle.opus.specs.Answers.{parsed}
 use Rattle.capture.specs.Finding.{packetLength, before, recordFrom, nextRecord}
@@ -17,20 +18,34 @@ use Rattle.aveluafi.specs.declared.reading.AveluafiSize.{AveluafiSize}
 use Rattle.aveluafi.specs.declared.reading.AveluafiPacket.{AveluafiPacket}
 use Rattle.aveluafi.specs.declared.captures.AveluafiRecord.{AveluafiRecord}
 
--- FC 01 is 256 in two bytes; cut short it is -1
-pub sizes-in-c : sizeRecord (parseSize (0xfc ∷ 0x01 ∷ [])) ∷ sizeRecord (parseSize (0xfc ∷ [])) ∷ []
-    ≡ record { number = pos 2; size = 256 } ∷ record { number = negsuc 0; size = 0 } ∷ []
-unfolding parseSize
+-- FC 01 is 256 in two bytes; cut short it is -1 with the rule that was told, at place 0; told rule 5 it is -1 without a rule
+pub sizes-in-c : sizeRecord (parseSize 7 (0xfc ∷ 0x01 ∷ [])) ∷ sizeRecord (parseSize 7 (0xfc ∷ [])) ∷ sizeRecord (parseSize 5 (0xfc ∷ [])) ∷ []
+    ≡ record { report = record { number = pos 2; rule = 0; place = 0 }; size = 256 }
+    ∷ record { report = record { number = negsuc 0; rule = 7; place = 0 }; size = 0 }
+    ∷ record { report = record { number = negsuc 0; rule = 0; place = 0 }; size = 0 } ∷ []
+unfolding parseSize sizeTold
 sizes-in-c = refl
 
--- self-delimited 07 02 01 AA BB 55: two frames of a byte from place 3 on, 5 bytes taken; 03 00 cannot be read
+-- self-delimited 07 02 01 AA BB 55: two frames of a byte from place 3 on, 5 bytes taken; 03 83 05 00 breaks rule 7 at byte 2
 pub packet-in-c : packetRecord (parsed true (0x07 ∷ 0x02 ∷ 0x01 ∷ 0xaa ∷ 0xbb ∷ 0x55 ∷ []))
-    ≡ record { number = pos 2; toc = 7; lengths = 1 ∷ 1 ∷ replicate 46 0; «payload_offset» = 3; «packet_offset» = 5 }
+    ≡ record {
+      report = record { number = pos 2; rule = 0; place = 0 };
+      lengths = 1 ∷ 1 ∷ replicate 46 0;
+      toc = 7;
+      «payload_offset» = 3;
+      «packet_offset» = 5;
+    }
 unfolding parsed read duration
 packet-in-c = refl
 
-pub refused-in-c : packetRecord (parsed false (0x03 ∷ 0x00 ∷ []))
-    ≡ record { number = negsuc 3; toc = 0; lengths = replicate 48 0; «payload_offset» = 0; «packet_offset» = 0 }
+pub refused-in-c : packetRecord (parsed false (0x03 ∷ 0x83 ∷ 0x05 ∷ 0x00 ∷ []))
+    ≡ record {
+      report = record { number = negsuc 3; rule = 7; place = 2 };
+      lengths = replicate 48 0;
+      toc = 0;
+      «payload_offset» = 0;
+      «packet_offset» = 0;
+    }
 unfolding parsed read duration ruleRefusal
 refused-in-c = refl
 

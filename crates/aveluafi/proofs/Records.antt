@@ -1,15 +1,17 @@
 -- The core's answers fit the records that C sees.
 --     size-few                     the bytes used are a small number
 --     size-passed, rate-passed     a call is passed the bits of a signed number
+--     size-reported, ..            a report in a record
+--     size-number, packet-number   the number of a record is the one of the core's answer
 --     read-few, record-read, ..    a packet that was read, by its verdict
 --     record-found                 a record of a capture
 -- Assumes nothing.
 use Prim.Native.Nat.{ℕ, _-_, _≤_}
 use native.Mathlib.Omega.{arith}
 use mathlib.Core.Path.{_≡_, refl, sym, ap, _∙_}
-use mathlib.Core.List.{List}
+use mathlib.Core.List.{List, []}
 use mathlib.Core.Bool.{Bool}
-use lib.Dec.{ltb}
+use lib.Dec.{ltb, eqb}
 use lib.IntN.{ℤ, pos}
 use lib.ListN.{length, length-append}
 use mir.Syntax.{w32}
@@ -17,22 +19,28 @@ use mir.Val.{toZ, ofZ, SFits}
 use mir.ValLaws.{toZ-ofZ}
 use Rattle.laws.specs.Bytes.{Bytes}
 use Rattle.laws.proofs.Never.{never, by-test}
-use Rattle.opus_defines.specs.Numbers.{verdictNumber}
+use Rattle.opus_defines.specs.Numbers.{plain, refusalReport, verdictNumber, verdictReport}
 use Rattle.opus_defines.specs.declared.Refusal.{Refusal}
 use Rattle.opus_defines.specs.declared.Refusal.the-variants.{BadArg}
+use Rattle.opus_defines.specs.declared.Report.{Report}
+use Rattle.opus_defines.specs.declared.Rule.{Rule}
+use Rattle.opus_defines.specs.declared.Rule.the-variants.{R4, R7, R8}
+use Rattle.opus_defines.specs.declared.Verdict.{Verdict}
 use Rattle.opus_defines.specs.declared.Verdict.the-variants.{Accepted, Refused}
 use Rattle.opus_size.specs.Size.{Field, noField, field, lengthField, readField}
-use Rattle.opus_size.specs.Answers.{encodeSize, sizeOf, parseSize}
+use Rattle.opus_size.specs.Answers.{encodeSize, sizeOf, sizeNumber, sizeTold, parseSize}
+use Rattle.opus_size.specs.declared.Size.{Size}
 use Rattle.opus_size.proofs.Fields.{width, field-was}
 use Rattle.opus_toc.specs.Answers.{samplesPerFrame}
+use Rattle.opus_format.specs.Frames.{padded48}
 use Rattle.opus_format.specs.Reading.{Reading, refused, accepted, read}
-use Rattle.opus.specs.Answers.{noPacket, packetOf, parsed, answerOf}
+use Rattle.opus.specs.Answers.{noPacket, packetNumber, packetOf, parsed, answerOf}
 use Rattle.opus.specs.declared.Packet.{Packet}
 use Rattle.opus.specs.declared.PacketHead.{PacketHead}
 use Rattle.opus.proofs.Lent.{lent-accepted}
 use Rattle.opus_format.proofs.Facts.{facts}
 use Rattle.capture.specs.declared.NextRecord.{NextRecord}
-use Rattle.aveluafi.specs.Records.{packetRecord, captureRecord}
+use Rattle.aveluafi.specs.Records.{sizeRecord, packetRecord, captureRecord}
 
 -- ---- a packet that was read, with its lengths in the array l
 few : (sd : Bool) (p : List ℕ) → Bytes p → parsed sd p .count ≤ 48
@@ -40,7 +48,7 @@ unfolding parsed
 few sd p bytes = by-test (ltb 65535 (length p)) (λ t. rw t (omega arith)) (λ t. rw t (go (read sd p) refl))
   where
     go : (x : Reading) → read sd p ≡ x → packetOf (read sd p) .count ≤ 48
-    go (refused rule) q = rw q (omega arith)
+    go (refused rule place) q = rw q (omega arith)
     go (accepted toc ns first taken) q = rw q (facts sd p toc ns first taken bytes q .few)
 
 -- beside a refusal the answer is zeros
@@ -55,7 +63,7 @@ refused-zeros sd p e v =
     same w = cc
 
     go : (x : Reading) → packetOf x .verdict ≡ Refused e → packetOf x ≡ noPacket e
-    go (refused rule) w = ap noPacket (same w)
+    go (refused rule place) w = ap noPacket (same w)
     go (accepted toc ns first taken) w = never (cc)
 
 module _ (sd : Bool) (p : List ℕ) (h : PacketHead) (l : List ℕ) where
@@ -64,28 +72,56 @@ module _ (sd : Bool) (p : List ℕ) (h : PacketHead) (l : List ℕ) where
   read-few bytes e = let n : h .count ≡ parsed sd p .count = ap (λ (r : Packet). r .count) e in omega (arith, n, few sd p bytes)
 
   module _ (e : answerOf h l ≡ parsed sd p) where
-    pub record-read : h .verdict ≡ Accepted → {n : ℤ} → n ≡ pos (h .count)
-        → record { number = n; toc = h .toc; lengths = l; «payload_offset» = h .first; «packet_offset» = h .taken } ≡ packetRecord (parsed sd p)
+    pub record-read : h .verdict ≡ Accepted → {r : Report} → r ≡ plain (pos (h .count))
+        → record { report = r; lengths = l; toc = h .toc; «payload_offset» = h .first; «packet_offset» = h .taken } ≡ packetRecord (parsed sd p)
     record-read v m = rw (m, ← lent-accepted sd p h l e v, v)
 
     pub record-unread : {c : Refusal} → h .verdict ≡ Refused c → packetRecord (noPacket c) ≡ packetRecord (parsed sd p)
     record-unread {c} v = ap packetRecord (sym (refused-zeros sd p c (ap (λ (r : Packet). r .verdict) (sym e) ∙ v)))
 
--- a field of one or two bytes
-pub size-few : (s : List ℕ) → Bytes s → parseSize s .bytes ≤ 2
-unfolding parseSize
-size-few s bytes = go (readField s) refl
+-- a field of one or two bytes, whatever rule asks for it
+told-few : (rule : Rule) (s : List ℕ) → Bytes s → sizeTold rule s .bytes ≤ 2
+unfolding sizeTold
+told-few rule s bytes = go (readField s) refl
   where
-    go : (x : Field) → readField s ≡ x → sizeOf s (readField s) .bytes ≤ 2
+    go : (x : Field) → readField s ≡ x → sizeOf rule s (readField s) .bytes ≤ 2
     go noField q = rw q (omega arith)
     go (field n t) q =
         let w = field-was s t n bytes q .0 in
         let few : length s - length t ≤ 2 = rw w (omega (arith, length-append (lengthField n) t, width n)) in
         rw q few
 
+pub size-few : (told : ℕ) (s : List ℕ) → Bytes s → parseSize told s .bytes ≤ 2
+unfolding parseSize
+size-few told s bytes =
+    by-test (eqb told 4) (λ t. rw t (told-few R4 s bytes)) (λ t. rw t
+    (by-test (eqb told 7) (λ u. rw u (told-few R7 s bytes)) (λ u. rw u
+    (by-test (eqb told 8) (λ v. rw v (told-few R8 s bytes)) (λ v. rw v (omega arith))))))
+
+-- ---- a report in a record
+pub size-reported : (s : Size) {r : Report} → r ≡ verdictReport (s .bytes) (s .verdict) → record { report = r; size = s .size } ≡ sizeRecord s
+size-reported s e = rw e
+
+pub none-reported : (c : Refusal) {r : Report} → r ≡ refusalReport c
+    → record { report = r; lengths = padded48 []; toc = 0; «payload_offset» = 0; «packet_offset» = 0 } ≡ packetRecord (noPacket c)
+none-reported c e = rw e
+
+-- ---- the number of a record is the one of the core's answer: rule and place change none
+reported-number : (n : ℕ) (v : Verdict) → verdictReport n v .number ≡ verdictNumber (pos n) v
+reported-number n Accepted = refl
+reported-number n (Refused e) = refl
+
+pub size-number : (s : Size) → sizeRecord s .report .number ≡ sizeNumber s
+size-number s = reported-number (s .bytes) (s .verdict)
+
+pub packet-number : (p : Packet) → packetRecord p .report .number ≡ packetNumber p
+packet-number p = reported-number (p .count) (p .verdict)
+
 -- ---- numbers as C hands them over: a call is passed the bits of the number
-pub size-passed : (size : ℤ) (s : List ℕ) → SFits w32 size → encodeSize size s ≡ encodeSize (toZ w32 (ofZ w32 size)) s
-size-passed size s f = rw (toZ-ofZ w32 size f)
+pub size-passed : (size : ℤ) (s : List ℕ) → SFits w32 size → {n : ℤ} {t : List ℕ}
+    → n ≡ encodeSize (toZ w32 (ofZ w32 size)) s .report .number → t ≡ encodeSize (toZ w32 (ofZ w32 size)) s .bytes
+    → (n ≡ encodeSize size s .report .number) × (t ≡ encodeSize size s .bytes)
+size-passed size s f a b = rw (← toZ-ofZ w32 size f) (a, b)
 
 pub rate-passed : (s : List ℕ) (rate : ℤ) → SFits w32 rate → samplesPerFrame s (toZ w32 (ofZ w32 rate)) ≡ samplesPerFrame s rate
 rate-passed s rate f = rw (toZ-ofZ w32 rate f)

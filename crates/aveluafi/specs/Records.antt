@@ -1,7 +1,6 @@
--- The core's answers as the records that C sees: the verdict becomes its number, and the other fields are the same.
-use Rattle.opus_size.specs.Answers.{sizeNumber}
+-- The core's answers as the records that C sees: the verdict becomes its report, that is number, rule and place, and the other fields are the same.
+use Rattle.opus_defines.specs.Numbers.{verdictReport}
 use Rattle.opus_size.specs.declared.Size.{Size}
-use Rattle.opus.specs.Answers.{packetNumber}
 use Rattle.opus.specs.declared.Packet.{Packet}
 use Rattle.aveluafi.specs.declared.reading.AveluafiSize.{AveluafiSize}
 use Rattle.aveluafi.specs.declared.reading.AveluafiPacket.{AveluafiPacket}
@@ -9,15 +8,17 @@ use Rattle.capture.specs.Finding.{recordNumber}
 use Rattle.capture.specs.declared.NextRecord.{NextRecord}
 use Rattle.aveluafi.specs.declared.captures.AveluafiRecord.{AveluafiRecord}
 
+-- the number is the bytes of the field, or the refusal's
 abbrev pub sizeRecord : Size → AveluafiSize
-sizeRecord s = record { number = sizeNumber s; size = s .size }
+sizeRecord s = record { report = verdictReport (s .bytes) (s .verdict); size = s .size }
 
+-- the number is the count of frames, or the refusal's
 abbrev pub packetRecord : Packet → AveluafiPacket
 packetRecord p =
     record {
-      number = packetNumber p;
-      toc = p .toc;
+      report = verdictReport (p .count) (p .verdict);
       lengths = p .lengths;
+      toc = p .toc;
       «payload_offset» = p .first;
       «packet_offset» = p .taken;
     }

@@ -4,8 +4,9 @@ ghost use mathlib.Core.Path.{_≡_};
 ghost use mathlib.Core.Bool.{false};
 ghost use Rattle.opus_defines.specs.Numbers.{numberOf};
 ghost use Rattle.repacketizer.specs.Collector.{empty, nbFramesHeld};
-ghost use Rattle.repacketizer.specs.Adding.{addedNumber, added};
+ghost use Rattle.repacketizer.specs.Adding.{addedReport, added};
 ghost use Rattle.repacketizer_out.specs.Output.{outRange, outAll};
+use opus_defines::Report;
 use repacketizer::Head;
 use repacketizer::OpusRepacketizer;
 
@@ -20,14 +21,14 @@ pub extern "C" fn aveluafi_repacketizer_init(rp: &mut OpusRepacketizer)
     rp.len = [0u16; 48];
 }
 
-// Adds an ordinary packet, and answers 0.
+// Adds an ordinary packet, and answers 0; a refusal of the reader with rule and place.
 #[no_mangle]
 pub extern "C" fn aveluafi_repacketizer_cat(
     rp: &mut OpusRepacketizer,
     data: &[u8],
     store: &mut [u8],
-) -> i32
-    ensures { λ r. ⌜ (r ≡ addedNumber (added false (now (rp .entry)) (now («data» .entry)) (now (store .entry)) .answer))
+) -> Report
+    ensures { λ r. ⌜ (r ≡ addedReport (added false (now (rp .entry)) (now («data» .entry)) (now (store .entry)) .answer))
         × (now (rp .exit) ≡ added false (now (rp .entry)) (now («data» .entry)) (now (store .entry)) .answer .rp)
         × (now (store .exit) ≡ added false (now (rp .entry)) (now («data» .entry)) (now (store .entry)) .store) ⌝ }
 {
@@ -40,7 +41,7 @@ pub extern "C" fn aveluafi_repacketizer_cat(
     rp.toc = a.toc;
     rp.nb_frames = a.count as u16;
     rp.framesize = a.framesize;
-    opus_defines::verdict_number(0, a.verdict)
+    opus_defines::verdict_report(0, a.verdict)
 }
 
 // The frames held.
@@ -67,7 +68,7 @@ pub extern "C" fn aveluafi_repacketizer_out_range_impl(
     self_delimited: bool,
     pad: bool,
 ) -> i32
-    ensures { λ r. ⌜ (r ≡ outRange «self_delimited» pad (now (rp .entry)) (now (store .entry)) begin end (now («data» .entry)) .number)
+    ensures { λ r. ⌜ (r ≡ outRange «self_delimited» pad (now (rp .entry)) (now (store .entry)) begin end (now («data» .entry)) .report .number)
         × (now («data» .exit) ≡ outRange «self_delimited» pad (now (rp .entry)) (now (store .entry)) begin end (now («data» .entry)) .bytes) ⌝ }
 {
     let h = Head {
@@ -87,7 +88,7 @@ pub extern "C" fn aveluafi_repacketizer_out_range(
     end: i32,
     data: &mut [u8],
 ) -> i32
-    ensures { λ r. ⌜ (r ≡ outRange false false (now (rp .entry)) (now (store .entry)) begin end (now («data» .entry)) .number)
+    ensures { λ r. ⌜ (r ≡ outRange false false (now (rp .entry)) (now (store .entry)) begin end (now («data» .entry)) .report .number)
         × (now («data» .exit) ≡ outRange false false (now (rp .entry)) (now (store .entry)) begin end (now («data» .entry)) .bytes) ⌝ }
 {
     aveluafi_repacketizer_out_range_impl(rp, store, begin, end, data, false, false)
@@ -100,7 +101,7 @@ pub extern "C" fn aveluafi_repacketizer_out(
     store: &[u8],
     data: &mut [u8],
 ) -> i32
-    ensures { λ r. ⌜ (r ≡ outAll (now (rp .entry)) (now (store .entry)) (now («data» .entry)) .number)
+    ensures { λ r. ⌜ (r ≡ outAll (now (rp .entry)) (now (store .entry)) (now («data» .entry)) .report .number)
         × (now («data» .exit) ≡ outAll (now (rp .entry)) (now (store .entry)) (now («data» .entry)) .bytes) ⌝ }
 {
     aveluafi_repacketizer_out_range_impl(rp, store, 0, rp.nb_frames as i32, data, false, false)

@@ -9,24 +9,29 @@ ghost use Rattle.opus.specs.Answers.{noPacket, parsed};
 ghost use Rattle.aveluafi.specs.Records.{sizeRecord, packetRecord};
 use opus_defines::Answer;
 use opus_defines::Refusal;
+use opus_defines::Report;
 use opus_defines::Verdict;
 use opus_size::Size;
 
-// A length that was read.
+// The two records of reading. The header has the report's three fields, number, rule and place, as the record's own: they lie alike. Here they are one
+// value, which is kept in one register.
+
+// A length that was read; 0 beside a refusal.
 #[repr(C)]
 pub struct AveluafiSize {
-    // The bytes of its field, or the refusal.
-    pub number: i32,
+    // The bytes of its field, or the refusal, with the rule that was told where the field is cut short.
+    pub report: Report,
     pub size: u16,
 }
 
-// A packet that was read; all zeros beside a refusal.
+// A packet that was read; all zeros beside the report of a refusal.
 #[repr(C)]
 pub struct AveluafiPacket {
-    // The frames, or the refusal.
-    pub number: i32,
-    pub toc: u8,
+    // The frames, or the refusal, with rule and place where the packet breaks a rule.
+    pub report: Report,
+    // No byte is left free between these and the report: it would be copied with them.
     pub lengths: [u16; 48],
+    pub toc: u8,
     // The place of the first frame, and the bytes taken with padding.
     pub payload_offset: usize,
     pub packet_offset: usize,
@@ -34,7 +39,7 @@ pub struct AveluafiPacket {
 
 #[no_mangle]
 pub extern "C" fn aveluafi_encode_size(size: i32, data: &mut [u8]) -> i32
-    ensures number { λ r. ⌜ r ≡ encodeSize size (now («data» .entry)) .number ⌝ }
+    ensures number { λ r. ⌜ r ≡ encodeSize size (now («data» .entry)) .report .number ⌝ }
     ensures bytes { λ _. ⌜ now («data» .exit) ≡ encodeSize size (now («data» .entry)) .bytes ⌝ }
 {
     opus_size::encode_size(size, data)
@@ -46,16 +51,17 @@ fn size_record(s: Size) -> AveluafiSize
 {
     let v = s.verdict;
     AveluafiSize {
-        number: opus_defines::verdict_number(s.bytes as u16, v),
+        report: opus_defines::verdict_report(s.bytes as u16, v),
         size: s.size,
     }
 }
 
+// Told the rule that asks for the length.
 #[no_mangle]
-pub extern "C" fn aveluafi_parse_size(data: &[u8]) -> AveluafiSize
-    ensures { λ r. ⌜ r ≡ sizeRecord (parseSize (now («data» .entry))) ⌝ }
+pub extern "C" fn aveluafi_parse_size(data: &[u8], rule: u16) -> AveluafiSize
+    ensures { λ r. ⌜ r ≡ sizeRecord (parseSize rule (now («data» .entry))) ⌝ }
 {
-    size_record(opus_size::parse_size(data))
+    size_record(opus_size::parse_size(data, rule))
 }
 
 #[no_mangle]
@@ -72,14 +78,15 @@ pub extern "C" fn aveluafi_packet_get_nb_frames(data: &[u8]) -> i32
     opus_toc::opus_packet_get_nb_frames(data)
 }
 
-// Zeros beside a refusal.
+// Zeros beside a refusal's report.
 fn no_packet(e: Refusal) -> AveluafiPacket
     ensures { λ r. ⌜ r ≡ packetRecord (noPacket e) ⌝ }
 {
+    let r = opus_defines::refusal_report(e);
     AveluafiPacket {
-        number: opus_defines::refusal_number(e),
-        toc: 0,
+        report: r,
         lengths: [0u16; 48],
+        toc: 0,
         payload_offset: 0,
         packet_offset: 0,
     }
@@ -95,9 +102,9 @@ pub extern "C" fn aveluafi_packet_parse_impl(data: &[u8], self_delimited: bool) 
     let v = p.verdict;
     let Verdict::Refused(e) = v else {
         return AveluafiPacket {
-            number: opus_defines::number_of(Answer::Number(p.count as u16)),
-            toc: p.toc,
+            report: opus_defines::report_of(Answer::Number(p.count as u16)),
             lengths,
+            toc: p.toc,
             payload_offset: p.first,
             packet_offset: p.taken,
         };

@@ -1,7 +1,8 @@
-// Runs document 01's cases at the edges for the length fields, the TOC byte and the reader through the compiled code.
-// A line is a case: what was called, and what it answered.
+// Runs document 01's cases at the edges for the length fields, the TOC byte and the reader through the compiled code, and those of document 02, M-100,
+// on rule and place. A line is a case: what was called, and what it answered.
 use opus::Packet;
 use opus_defines::Refusal;
+use opus_defines::Report;
 use opus_defines::Verdict;
 
 fn refusal(e: Refusal) {
@@ -78,7 +79,7 @@ fn parse(name: &[u8], data: &[u8]) {
     show::text(b"parse ");
     show::text(name);
     show::text(b": ");
-    let s = opus_size::parse_size(data);
+    let s = opus_size::parse_size(data, 4);
     let v = s.verdict;
     let Verdict::Refused(e) = v else {
         show::decimal(s.bytes);
@@ -157,9 +158,96 @@ fn long_cases() {
     read(b"65535 zeros", &long[..65535]);
 }
 
+// ---- rule and place
+
+fn report(r: Report) {
+    show::text(b": ");
+    show::number(r.number);
+    show::text(b" ");
+    show::decimal(r.rule as usize);
+    show::text(b" ");
+    show::decimal(r.place as usize);
+    show::text(b"\n");
+}
+
+// Every count is below 65,536.
+fn report_of(n: usize, v: Verdict) -> Report {
+    if n < 65536 {
+        return opus_defines::verdict_report(n as u16, v);
+    }
+    opus_defines::verdict_report(65535, v)
+}
+
+fn packet_report(p: Packet) -> Report {
+    let v = p.verdict;
+    report_of(p.count, v)
+}
+
+fn place(name: &[u8], data: &[u8]) {
+    show::text(b"rule and place of ");
+    show::text(name);
+    report(packet_report(opus::opus_packet_parse(data)));
+}
+
+fn place_self(name: &[u8], data: &[u8]) {
+    show::text(b"rule and place of self-delimited ");
+    show::text(name);
+    report(packet_report(opus::opus_packet_parse_impl(data, true)));
+}
+
+fn place_length(name: &[u8], data: &[u8], rule: u16) {
+    show::text(b"rule and place of length ");
+    show::text(name);
+    show::text(b" told ");
+    show::decimal(rule as usize);
+    let s = opus_size::parse_size(data, rule);
+    let v = s.verdict;
+    report(report_of(s.bytes, v));
+}
+
+fn place_cases() {
+    place(b"nothing", b"");
+    place(b"01 AA", b"\x01\xaa");
+    place(b"02 02 AA", b"\x02\x02\xaa");
+    place(b"03", b"\x03");
+    place(b"03 00", b"\x03\x00");
+    place(b"03 02 AA", b"\x03\x02\xaa");
+    place(b"03 41 01", b"\x03\x41\x01");
+    place(b"03 42 01 AA 00", b"\x03\x42\x01\xaa\x00");
+    place(b"03 82 01", b"\x03\x82\x01");
+    place(b"03 83 01 01 AA", b"\x03\x83\x01\x01\xaa");
+    place(b"03 83 05 00", b"\x03\x83\x05\x00");
+    place(b"03 C1 01", b"\x03\xc1\x01");
+    place(b"03 02 AA BB", b"\x03\x02\xaa\xbb");
+    place_self(b"00 02 AA", b"\x00\x02\xaa");
+    place_self(b"03 82 01 01 AA", b"\x03\x82\x01\x01\xaa");
+}
+
+// An implied frame above 1275 bytes, behind a length and right behind the TOC byte; a packet above 65,535 bytes.
+fn long_place_cases() {
+    let mut long = [0u8; 65536];
+    place(b"65536 zeros", &long);
+    place(b"65535 zeros", &long[..65535]);
+    long[0] = 2;
+    long[1] = 0xfc;
+    place(b"02 FC 00 and 1528 zeros", &long[..1531]);
+}
+
+fn length_place_cases() {
+    place_length(b"nothing", b"", 4);
+    place_length(b"FC", b"\xfc", 7);
+    place_length(b"FC", b"\xfc", 8);
+    place_length(b"FC", b"\xfc", 5);
+    place_length(b"FB", b"\xfb", 5);
+    place_length(b"FB", b"\xfb", 4);
+}
+
 fn main() {
     length_cases();
     toc_cases();
     reader_cases();
     long_cases();
+    place_cases();
+    long_place_cases();
+    length_place_cases();
 }

@@ -1,4 +1,5 @@
-// Runs the listing of document 01's cases at the edges through the compiled code. A line names a packet, and its listing follows.
+// Runs the listing of document 01's cases at the edges, and of packets that break a rule (document 02, M-100), through the compiled code. A line
+// names a packet, and its listing follows.
 
 fn list(name: &[u8], data: &[u8]) {
     show::text(b"listing ");
@@ -13,6 +14,8 @@ fn short_cases() {
     list(b"nothing", b"");
     list(b"00", b"\x00");
     list(b"01 AA", b"\x01\xaa");
+    list(b"03 00", b"\x03\x00");
+    list(b"03 83 01 01 AA", b"\x03\x83\x01\x01\xaa");
     list(b"03 02 AA BB", b"\x03\x02\xaa\xbb");
     list(b"03 02", b"\x03\x02");
     list(b"1B 02", b"\x1b\x02");

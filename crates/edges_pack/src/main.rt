@@ -1,6 +1,7 @@
-// Runs document 01's cases at the edges for the collector, its output, pad, unpad and the multistream calls through the compiled code.
-// A line is a case: what was called, the number it answered, and the buffer.
+// Runs document 01's cases at the edges for the collector, its output, pad, unpad and the multistream calls through the compiled code, and those of
+// document 02, M-100, on rule and place. A line is a case: what was called, the number it answered, or number, rule and place, and the buffer.
 use opus_defines::Answer;
+use opus_defines::Report;
 use opus_defines::Verdict;
 use repacketizer::Added;
 use repacketizer::OpusRepacketizer;
@@ -97,15 +98,15 @@ fn pad(data: &mut [u8], len: i32, new_len: i32) {
     show::number(len);
     show::text(b" to ");
     show::number(new_len);
-    let n = packet_pad::opus_packet_pad(data, len, new_len);
-    shown(n, data);
+    let r = packet_pad::opus_packet_pad(data, len, new_len);
+    shown(r.number, data);
 }
 
 fn unpad(data: &mut [u8], len: i32) {
     show::text(b"unpad ");
     show::number(len);
-    let n = packet_pad::opus_packet_unpad(data, len);
-    shown(n, data);
+    let r = packet_pad::opus_packet_unpad(data, len);
+    shown(r.number, data);
 }
 
 fn pad_to(new_len: i32) {
@@ -120,11 +121,11 @@ fn pad_far(new_len: i32) {
     let mut data = [238u8; 300];
     data[0] = 0;
     data[1] = 0xaa;
-    let n = packet_pad::opus_packet_pad(&mut data, 2, new_len);
+    let r = packet_pad::opus_packet_pad(&mut data, 2, new_len);
     show::text(b"pad 2 to ");
     show::number(new_len);
     show::text(b": ");
-    show::number(n);
+    show::number(r.number);
     show::text(b" ");
     show::front(&data, 6);
     show::text(b"\n");
@@ -169,8 +170,8 @@ fn streams_pad(data: &mut [u8], len: i32, new_len: i32, streams: i32) {
     show::number(new_len);
     show::text(b" streams ");
     show::number(streams);
-    let n = multistream::opus_multistream_packet_pad(data, len, new_len, streams);
-    shown(n, data);
+    let r = multistream::opus_multistream_packet_pad(data, len, new_len, streams);
+    shown(r.number, data);
 }
 
 fn streams_unpad(data: &mut [u8], len: i32, streams: i32) {
@@ -178,8 +179,8 @@ fn streams_unpad(data: &mut [u8], len: i32, streams: i32) {
     show::number(len);
     show::text(b" streams ");
     show::number(streams);
-    let n = multistream::opus_multistream_packet_unpad(data, len, streams);
-    shown(n, data);
+    let r = multistream::opus_multistream_packet_unpad(data, len, streams);
+    shown(r.number, data);
 }
 
 fn stream_cases() {
@@ -218,6 +219,82 @@ fn stream_stage_cases() {
     streams_unpad(&mut straight, 5, 2);
 }
 
+// ---- rule and place
+
+fn report(r: Report) {
+    show::text(b": ");
+    show::number(r.number);
+    show::text(b" ");
+    show::decimal(r.rule as usize);
+    show::text(b" ");
+    show::decimal(r.place as usize);
+}
+
+fn reported(r: Report, buffer: &[u8]) {
+    report(r);
+    show::text(b" ");
+    show::bytes(buffer);
+    show::text(b"\n");
+}
+
+fn add_place(rp: OpusRepacketizer, name: &[u8], data: &[u8], store: &mut [u8]) {
+    show::text(b"rule and place of add ");
+    show::text(name);
+    let a = repacketizer::opus_repacketizer_cat(rp, data, store);
+    let v = a.verdict;
+    report(opus_defines::verdict_report(opus_defines::OPUS_OK, v));
+    show::text(b"\n");
+}
+
+// To a collector that holds 00 AA: another TOC byte, no count byte, a joint total above 120 ms, and the packet's own. Then to an empty one.
+fn add_place_cases() {
+    let mut store = [0u8; 61200];
+    let empty = repacketizer::opus_repacketizer_init();
+    let a = repacketizer::opus_repacketizer_cat(empty, b"\x00\xaa", &mut store);
+    let rp = a.rp;
+    add_place(rp, b"07", b"\x07", &mut store);
+    add_place(rp, b"03", b"\x03", &mut store);
+    add_place(rp, b"03 0C", b"\x03\x0c", &mut store);
+    add_place(rp, b"03 0D", b"\x03\x0d", &mut store);
+    add_place(rp, b"nothing", b"", &mut store);
+    add_place(rp, b"03 83 05 00", b"\x03\x83\x05\x00", &mut store);
+    add_place(empty, b"07 to none", b"\x07", &mut store);
+    add_place(empty, b"03 0C to none", b"\x03\x0c", &mut store);
+}
+
+fn in_place_places() {
+    let mut odd = [1u8, 0xaa, 238];
+    show::text(b"rule and place of pad 2 to 3");
+    let r = packet_pad::opus_packet_pad(&mut odd, 2, 3);
+    reported(r, &odd);
+    show::text(b"rule and place of unpad 2");
+    let s = packet_pad::opus_packet_unpad(&mut odd, 2);
+    reported(s, &odd);
+    show::text(b"rule and place of unpad 0");
+    let t = packet_pad::opus_packet_unpad(&mut odd, 0);
+    reported(t, &odd);
+}
+
+fn stream_place(data: &mut [u8], len: i32) {
+    show::text(b"rule and place of unpad ");
+    show::number(len);
+    show::text(b" streams 2");
+    let r = multistream::opus_multistream_packet_unpad(data, len, 2);
+    reported(r, data);
+}
+
+// The place counts from the front of all streams; a stream without a byte breaks rule 1 at the end.
+fn stream_place_cases() {
+    let mut two = [0u8, 1, 0xaa, 3];
+    stream_place(&mut two, 3);
+    stream_place(&mut two, 4);
+    show::text(b"rule and place of pad 3 to 4 streams 2");
+    let r = multistream::opus_multistream_packet_pad(&mut two, 3, 4, 2);
+    reported(r, &two);
+    let mut first = [0u8, 2, 0xaa];
+    stream_place(&mut first, 3);
+}
+
 fn main() {
     collector_cases();
     pad_cases();
@@ -225,4 +302,7 @@ fn main() {
     rebuilt_cases();
     stage_cases();
     stream_stage_cases();
+    add_place_cases();
+    in_place_places();
+    stream_place_cases();
 }

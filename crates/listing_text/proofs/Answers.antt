@@ -14,12 +14,17 @@ use lib.ListN.{length}
 use lib.Seq.{sets}
 use mir.Syntax.{w32}
 use mir.Val.{toZ, ofZ}
-use borrow.Author.Tests.{le-ltb}
+use borrow.Author.Tests.{ltb-false, le-ltb}
 use Rattle.io.specs.Counts.{Counts}
 use Rattle.laws.specs.Bytes.{Bytes}
 use Rattle.laws.proofs.Never.{never, by-test}
-use Rattle.opus_defines.specs.Numbers.{refusalNumber, verdictNumber}
+use Rattle.opus_defines.specs.Numbers.{ruleNumber, refusalReport, verdictReport}
+use Rattle.opus_defines.specs.Rules.{ruleRefusal}
 use Rattle.opus_defines.specs.declared.Refusal.{Refusal}
+use Rattle.opus_defines.specs.declared.Refusal.the-variants.{BadArg, BufferTooSmall, InvalidPacket, InvalidState, Unreadable, CutShort}
+use Rattle.opus_defines.specs.declared.Report.{Report}
+use Rattle.opus_defines.specs.declared.Rule.{Rule}
+use Rattle.opus_defines.specs.declared.Rule.the-variants.{R1, R2, R3, R4, R5, R6, R7, R8}
 use Rattle.opus_defines.specs.declared.Verdict.the-variants.{Accepted, Refused}
 use Rattle.opus_size.specs.Size.{mostBytes}
 use Rattle.opus_toc.specs.Toc.{upperSix}
@@ -28,16 +33,16 @@ use Rattle.opus_format.specs.Reading.{Reading, refused, accepted, read}
 use Rattle.opus.specs.Answers.{packetOf, parsed}
 use Rattle.opus.specs.declared.Packet.{Packet}
 use Rattle.opus_format.proofs.Facts.{facts}
-use Rattle.opus.proofs.Parsed.{lengthsOf, parsed-accepted}
+use Rattle.opus_format.proofs.Within.{refused-within}
+use Rattle.opus.proofs.Parsed.{lengthsOf, parsed-accepted, parsed-refused}
 use Rattle.opus_header.specs.Sums.{sumsOf}
 use Rattle.opus_header.specs.Forms.{compactBytes}
 use Rattle.opus_header.proofs.Forms.{compact-front, sums-few}
 use Rattle.opus_header.proofs.Standing.{compact-needs}
-use Rattle.show.specs.Text.{refusal}
 use Rattle.show.proofs.Laid.{front-counts}
-use Rattle.show.proofs.Refusals.{refusal-passed, refusal-most}
-use Rattle.listing_text.specs.Listing.{packetText, listed, listing}
-use Rattle.listing_text.proofs.Room.{packet-most}
+use Rattle.show.proofs.Refusals.{refusal-passed}
+use Rattle.listing_text.specs.Listing.{packetText, reportLine, refusedLine, listed, listing}
+use Rattle.listing_text.proofs.Room.{packet-most, report-most}
 
 pub answers : (l p t : List ℕ) {d : List ℕ} {n : ℕ} → listing p ≡ t → length t ≤ length l → d ≡ sets l 0 t → n ≡ length t
     → (d ≡ sets l 0 (listing p)) × ((n ≡ length (listing p)) × Counts n d)
@@ -76,19 +81,48 @@ listing-read p r bytes e v =
     }
 
 -- ---- a packet that was refused
-module _ (r : Packet) (c : Refusal) (v : r .verdict ≡ Refused c) (x : ℤ) (n : x ≡ verdictNumber (pos 0) (r .verdict)) where
-  number-is : toZ w32 (ofZ w32 x) ≡ refusalNumber c
-  number-is = rw (n, v) (refusal-passed c)
+rule-few : (rule : Rule) → ruleNumber rule < 100000
+rule-few R1 = omega arith
+rule-few R2 = omega arith
+rule-few R3 = omega arith
+rule-few R4 = omega arith
+rule-few R5 = omega arith
+rule-few R6 = omega arith
+rule-few R7 = omega arith
+rule-few R8 = omega arith
 
-  pub refused-room : (l : List ℕ) → 2048 ≤ length l → length (refusal (toZ w32 (ofZ w32 x))) ≤ length l
-  refused-room l h = rw number-is (omega (arith, refusal-most c))
+line-most : (c : Refusal) → refusalReport c .place < 65536 → length (refusedLine c) ≤ 23
+line-most BadArg h = report-most 0 0 0 (omega arith) (omega arith) (omega arith)
+line-most BufferTooSmall h = report-most 1 0 0 (omega arith) (omega arith) (omega arith)
+line-most InvalidPacket h = report-most 3 0 0 (omega arith) (omega arith) (omega arith)
+line-most InvalidState h = report-most 5 0 0 (omega arith) (omega arith) (omega arith)
+line-most (Unreadable rule place) h = report-most 3 (ruleNumber rule) place (omega arith) (rule-few rule) (omega arith)
+line-most (CutShort rule) h = report-most 0 (ruleNumber rule) 0 (omega arith) (rule-few rule) (omega arith)
 
-  pub listing-refused : (p : List ℕ) → r ≡ parsed false p → listing p ≡ refusal (toZ w32 (ofZ w32 x))
-  unfolding parsed listing listed
-  listing-refused p e =
-      rw number-is
-      (by-test (ltb 65535 (length p)) (λ t. rw t (let y = rw t at e in cc)) (λ t. rw t (go (rw t at e) (read false p) refl)))
-    where
-      go : r ≡ packetOf (read false p) → (y : Reading) → read false p ≡ y → listed p (read false p) ≡ refusal (refusalNumber c)
-      go f (refused rule) q = rw q (let y = rw q at f in cc)
-      go f (accepted toc ns first taken) q = never (let y = rw q at f in cc)
+-- the reader refuses r, and x is what it says, as it is passed on
+module _ (p : List ℕ) (r : Packet) (e : r ≡ parsed false p) (c : Refusal) (v : r .verdict ≡ Refused c) where
+  place-few : refusalReport c .place < 65536
+  unfolding parsed ruleRefusal
+  place-few =
+      by-test (ltb 65535 (length p)) (λ t. let y = rw t at e in let b : c ≡ BadArg = cc in rw b (omega arith))
+      (λ t.
+      let short = ltb-false 65535 (length p) t in
+      let q = parsed-refused false p r e c v short in
+      rw (q .2) (omega (arith, refused-within false p (q .0) (q .1) (q .3), short)))
+
+  module _ (x : Report) (n : x ≡ verdictReport 0 (r .verdict)) where
+    line-is : reportLine (toZ w32 (ofZ w32 (x .number))) (x .rule) (x .place) ≡ refusedLine c
+    line-is = rw (n, v, refusal-passed c)
+
+    pub refused-room : (l : List ℕ) → 2048 ≤ length l → length (reportLine (toZ w32 (ofZ w32 (x .number))) (x .rule) (x .place)) ≤ length l
+    refused-room l h = rw line-is (omega (arith, line-most c place-few))
+
+    pub listing-refused : listing p ≡ reportLine (toZ w32 (ofZ w32 (x .number))) (x .rule) (x .place)
+    unfolding parsed listing listed
+    listing-refused =
+        rw line-is
+        (by-test (ltb 65535 (length p)) (λ t. rw t (let y = rw t at e in cc)) (λ t. rw t (go (rw t at e) (read false p) refl)))
+      where
+        go : r ≡ packetOf (read false p) → (y : Reading) → read false p ≡ y → listed p (read false p) ≡ refusedLine c
+        go f (refused rule place) q = rw q (let y = rw q at f in cc)
+        go f (accepted toc ns first taken) q = never (let y = rw q at f in cc)

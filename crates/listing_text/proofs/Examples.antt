@@ -10,9 +10,9 @@ use Rattle.opus_toc.specs.Toc.{duration, samples}
 use Rattle.opus_format.specs.Reading.{read}
 use Rattle.opus_header.specs.Header.{header}
 use Rattle.opus_header.specs.Compact.{compact}
-use Rattle.show.specs.Text.{places, decimal, integer, refusedLabel, refusal}
+use Rattle.show.specs.Text.{places, decimal, integer, refusedLabel}
 use Rattle.listing_text.specs.Labels.{tocLabel, countLabel, timeLabel, payloadLabel, packetLabel, compactLabel, frameLabel, atLabel, lengthLabel}
-use Rattle.listing_text.specs.Listing.{line, frameLine, frameLines, times, sizes, packetText, listed, listing}
+use Rattle.listing_text.specs.Listing.{line, frameLine, frameLines, times, sizes, packetText, reportLine, listed, listing}
 
 -- a line of it to a line, and to two where it says where a frame stands
 pub example : List ℕ
@@ -52,12 +52,17 @@ unfolding silence listing listed packetText times sizes line frameLines frameLin
     tocLabel countLabel timeLabel payloadLabel packetLabel compactLabel frameLabel atLabel lengthLabel
 silence-takes-time = refl
 
--- "refused -4" for a packet that cannot be read, "refused -1" for any above 65,535 bytes
-pub unreadable-listing : listing [] ≡ 114 ∷ 101 ∷ 102 ∷ 117 ∷ 115 ∷ 101 ∷ 100 ∷ 32 ∷ 45 ∷ 52 ∷ 10 ∷ []
-unfolding listing listed read ruleRefusal refusal refusedLabel integer decimal places
+-- "refused -4 1 0" for no byte at all, "refused -4 5 1" for 03 00, "refused -1 0 0" for any packet above 65,535 bytes
+pub unreadable-listing : listing [] ≡ 114 ∷ 101 ∷ 102 ∷ 117 ∷ 115 ∷ 101 ∷ 100 ∷ 32 ∷ 45 ∷ 52 ∷ 32 ∷ 49 ∷ 32 ∷ 48 ∷ 10 ∷ []
+unfolding listing listed read ruleRefusal reportLine refusedLabel integer decimal places
 unreadable-listing = refl
 
+pub no-frames-listing : listing (3 ∷ 0 ∷ [])
+    ≡ 114 ∷ 101 ∷ 102 ∷ 117 ∷ 115 ∷ 101 ∷ 100 ∷ 32 ∷ 45 ∷ 52 ∷ 32 ∷ 53 ∷ 32 ∷ 49 ∷ 10 ∷ []
+unfolding listing listed read ruleRefusal reportLine refusedLabel integer decimal places duration
+no-frames-listing = refl
+
 pub too-long-listing : (p : List ℕ) → 65535 < length p
-    → listing p ≡ 114 ∷ 101 ∷ 102 ∷ 117 ∷ 115 ∷ 101 ∷ 100 ∷ 32 ∷ 45 ∷ 49 ∷ 10 ∷ []
-unfolding listing refusal refusedLabel integer decimal places
+    → listing p ≡ 114 ∷ 101 ∷ 102 ∷ 117 ∷ 115 ∷ 101 ∷ 100 ∷ 32 ∷ 45 ∷ 49 ∷ 32 ∷ 48 ∷ 32 ∷ 48 ∷ 10 ∷ []
+unfolding listing reportLine refusedLabel integer decimal places
 too-long-listing p h = rw (lt-ltb 65535 (length p) h)

@@ -1,15 +1,17 @@
--- How long the texts are: a number below 100,000 takes at most five bytes, so that a frame's line takes at most 34 and a listing at most 2,048.
+-- How long the texts are: a number below 100,000 takes at most five bytes, so that a frame's line takes at most 34, a listing at most 2,048,
+-- and the line of a refusal, whose number has one digit, at most 23.
 -- Assumes nothing.
 use Prim.Native.Nat.{ℕ, suc, _+_, _*_, _≤_, _<_}
 use native.Mathlib.Omega.{arith}
 use mathlib.Core.List.{List, [], _∷_, _++_}
+use lib.IntN.{negsuc}
 use lib.ListN.{length, length-append}
 use Rattle.opus_toc.specs.Toc.{time}
 use Rattle.opus_format.specs.Frames.{total}
-use Rattle.show.specs.Text.{decimal}
+use Rattle.show.specs.Text.{decimal, integer, refusedLabel}
 use Rattle.show.proofs.Digits.{decimal-most}
 use Rattle.listing_text.specs.Labels.{tocLabel, countLabel, timeLabel, payloadLabel, packetLabel, compactLabel, frameLabel, atLabel, lengthLabel}
-use Rattle.listing_text.specs.Listing.{line, frameLine, frameLines, times, sizes, packetText}
+use Rattle.listing_text.specs.Listing.{line, frameLine, frameLines, times, sizes, packetText, reportLine}
 
 digits-most : (n : ℕ) → n < 100000 → length (decimal n) ≤ 5
 digits-most n h = decimal-most n 4 h
@@ -49,3 +51,8 @@ pub packet-most : (toc : ℕ) (ns : List ℕ) (first taken small : ℕ) → toc 
 unfolding packetText
 packet-most toc ns first taken small h k m f t s =
     simp length-append (omega (arith, times-most toc ns h k m, sizes-most first taken small (omega arith) t s, lines-most 0 first ns (omega arith) f))
+
+pub report-most : (n rule place : ℕ) → n < 9 → rule < 100000 → place < 100000 → length (reportLine (negsuc n) rule place) ≤ 23
+unfolding reportLine refusedLabel integer
+report-most n rule place h k m =
+    simp length-append (omega (arith, decimal-most (suc n) 0 (omega arith), digits-most rule k, digits-most place m))

@@ -3,12 +3,16 @@
 use Prim.Native.Nat.{ℕ, _+_, _≤_}
 use mathlib.Core.Path.{_≡_, refl}
 use mathlib.Core.List.{List, [], _∷_, _++_, append-assoc}
+use lib.IntN.{ℤ}
 use lib.ListN.{length}
+use mir.Syntax.{w32}
+use mir.Val.{toZ, ofZ, SFits}
+use mir.ValLaws.{toZ-ofZ}
 use Rattle.opus_toc.specs.Toc.{time}
-use Rattle.show.specs.Text.{decimal}
-use Rattle.show.proofs.Laid.{Three, front-room}
+use Rattle.show.specs.Text.{decimal, integer, refusedLabel}
+use Rattle.show.proofs.Laid.{Laid, Three, front-room, laid-as, laid-first}
 use Rattle.listing_text.specs.Labels.{tocLabel, countLabel, timeLabel, payloadLabel, packetLabel, compactLabel, frameLabel, atLabel, lengthLabel}
-use Rattle.listing_text.specs.Listing.{line, frameLine, frameLines, times, sizes, packetText}
+use Rattle.listing_text.specs.Listing.{line, frameLine, frameLines, times, sizes, packetText, reportLine}
 
 pub line-parts : (label : List ℕ) (n : ℕ) → line label n ≡ (label ++ decimal n) ++ (10 ∷ [])
 unfolding line
@@ -36,3 +40,37 @@ pub packet-parts : (l : List ℕ) (toc : ℕ) (ns : List ℕ) (first taken : ℕ
 unfolding packetText
 packet-parts l toc ns first taken {small} e h =
     record { whole = rw e; room = front-room l (packetText toc ns first taken small) h }
+
+-- ---- the line of a refusal, without its last numbers and whole; a call is passed the bits of the number
+module _ (x : ℤ) where
+  abbrev pub numbered : List ℕ
+  numbered = refusedLabel ++ integer (toZ w32 (ofZ w32 x))
+
+  module _ (rule : ℕ) where
+    abbrev pub ruled : List ℕ
+    ruled = numbered ++ ((32 ∷ []) ++ decimal rule)
+
+    module _ (place : ℕ) where
+      abbrev pub placed : List ℕ
+      placed = ruled ++ line (32 ∷ []) place
+
+      module _ (f : SFits w32 x) where
+        pub report-parts : reportLine x rule place ≡ placed
+        unfolding reportLine line
+        report-parts = rw (toZ-ofZ w32 x f, append-assoc (refusedLabel ++ integer x ++ (32 ∷ decimal rule)) (32 ∷ decimal place))
+
+        pub report-laid : {l d : List ℕ} {next : ℕ} → Laid l 0 placed d next → Laid l 0 (reportLine x rule place) d next
+        report-laid k = rw report-parts k
+
+        module _ (l : List ℕ) (h : length (reportLine x rule place) ≤ length l) where
+          pub place-room : 0 + length placed ≤ length l
+          place-room = laid-as l 0 report-parts (front-room l (reportLine x rule place) h)
+
+          pub rule-room : 0 + length ruled ≤ length l
+          rule-room = laid-first l 0 ruled (line (32 ∷ []) place) place-room
+
+          pub number-room : 0 + length numbered ≤ length l
+          number-room = laid-first l 0 numbered ((32 ∷ []) ++ decimal rule) rule-room
+
+          pub word-room : 0 + length refusedLabel ≤ length l
+          word-room = laid-first l 0 refusedLabel (integer (toZ w32 (ofZ w32 x))) number-room

@@ -12,7 +12,7 @@ ghost use Rattle.opus_format.specs.Frames.{total, longest};
 ghost use Rattle.opus_header.specs.Sums.{sumsOf};
 ghost use Rattle.opus_header.specs.Forms.{compactBytes};
 ghost use Rattle.show.specs.Text.{decimal};
-ghost use Rattle.listing_text.specs.Listing.{line, frameLine, frameLines, times, sizes, packetText};
+ghost use Rattle.listing_text.specs.Listing.{line, frameLine, frameLines, times, sizes, packetText, reportLine};
 ghost use Rattle.listing_text.specs.Listing.{listing as Listing·listing};
 use opus_defines::Verdict;
 use opus_defines::wide;
@@ -115,6 +115,19 @@ fn put_packet(out: &mut [u8], toc: u8, ns: &[u16], first: usize, taken: usize) -
     put_frames(out, at, first, ns)
 }
 
+// ---- a packet that was refused
+
+fn put_report(out: &mut [u8], number: i32, rule: u16, place: u16) -> usize
+    requires { ⌜ length (reportLine number rule place) ≤ length (now out) ⌝ }
+    ensures bytes { λ _. ⌜ now (out .exit) ≡ sets (now (out .entry)) 0 (reportLine number rule place) ⌝ }
+    ensures next { λ r. ⌜ r ≡ length (reportLine number rule place) ⌝ }
+{
+    let mut at = show::put_text(out, 0, b"refused ");
+    at = show::put_number(out, at, number);
+    at = put_named(out, at, b" ", rule as usize);
+    put_line(out, at, b" ", place as usize)
+}
+
 // ---- the listing
 
 // Puts the listing of a packet at the front of `out`, and answers its bytes.
@@ -127,7 +140,8 @@ pub fn listing(data: &[u8], out: &mut [u8]) -> usize
     let p = opus::opus_packet_parse(data);
     let v = p.verdict;
     let Verdict::Accepted = v else {
-        return show::put_refused(out, opus_defines::verdict_number(opus_defines::OPUS_OK, v));
+        let r = opus_defines::verdict_report(opus_defines::OPUS_OK, v);
+        return put_report(out, r.number, r.rule, r.place);
     };
     let n = p.count;
     let lengths = p.lengths;

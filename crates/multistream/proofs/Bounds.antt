@@ -35,9 +35,9 @@ module _ (sd : Bool) (p : List ℕ) (toc : ℕ) (ns : List ℕ) (first taken : �
   pub compact-within : length (compact sd (upperSix toc) (cut ns (drop first p))) ≤ taken
   compact-within = rebuilds sd p toc ns first taken bytes r .1
 
-by-reading : (sd : Bool) (p : List ℕ) → Bytes p → (x : Reading) → read sd p ≡ x
-    → (length (compactBy sd p x) ≤ takenBy x) × (takenBy x ≤ length p)
-by-reading sd p bytes (refused rule) r = (omega arith, omega arith)
+by-reading : (sd : Bool) (p : List ℕ) → Bytes p → (x : Reading) → read sd p ≡ x → (length (compactBy sd p x) ≤ takenBy x)
+    × (takenBy x ≤ length p)
+by-reading sd p bytes (refused rule place) r = (omega arith, omega arith)
 by-reading sd p bytes (accepted toc ns first taken) r =
     (compact-within sd p toc ns first taken bytes r, taken-within sd p toc ns first taken bytes r)
 
@@ -62,13 +62,13 @@ pass-within (suc k) p at bytes e = go (λ n. pass-within k (drop n p)) (read tru
   where
     go : ((n b : ℕ) → Bytes (drop n p) → passStreams k (drop n p) ≡ Past b → b ≤ length (drop n p)) → (x : Reading) → read true p ≡ x
         → at ≤ length p
-    go next (refused rule) q = never (let y = rw q at e in cc)
+    go next (refused rule place) q = never (let y = rw q at e in cc)
     go next (accepted toc ns first taken) q =
         further-within taken (length p) at (passStreams k (drop taken p))
         (λ b f. omega (arith, next taken b (bytes-drop taken p bytes) f, length-drop taken p, taken-within true p toc ns first taken bytes q)) (rw q at e)
 
 -- a stream and those behind it
-ahead-within : (q : List ℕ) (x : Repacked) (n m : ℕ) → length q ≤ n → n + length (packedOf x) ≤ m → length (packedOf (ahead q x)) ≤ m
+ahead-within : (q : List ℕ) (x : Repacked) (n m : ℕ) → length q ≤ n → n + length (packedOf x) ≤ m → length (packedOf (ahead q n x)) ≤ m
 ahead-within q (unread e) n m h l = omega arith
 ahead-within q (repacked v) n m h l = omega (arith, length-append q v)
 
@@ -78,7 +78,7 @@ reading-within : (sd : Bool) (next : List ℕ → Repacked) (p : List ℕ) → B
 reading-within sd next p bytes h = go (read sd p) refl
   where
     go : (x : Reading) → read sd p ≡ x → length (packedOf (repackReading sd next p x)) ≤ length p
-    go (refused rule) r = omega arith
+    go (refused rule place) r = omega arith
     go (accepted toc ns first taken) r =
         let q = compact sd (upperSix toc) (cut ns (drop first p)) in
         let rest : taken + length (packedOf (next (drop taken p))) ≤ length p =

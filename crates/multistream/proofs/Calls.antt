@@ -7,12 +7,12 @@
 --     last-none, last-behind            the last stream, where no byte is left for it, and where it is lent from its place on
 --     unpad-refused, unpad-all          unpad, by the verdict on the streams
 -- Assumes nothing.
-use Prim.Native.Nat.{ℕ, _-_, _≤_, _<_}
+use Prim.Native.Nat.{ℕ, _+_, _-_, _≤_, _<_}
 use native.Mathlib.Omega.{arith}
 use mathlib.Core.Path.{_≡_, refl, sym, ap, _∙_}
 use mathlib.Core.List.{List, [], _++_}
 use lib.IntN.{ℤ, pos}
-use lib.ListN.{length, take, drop, take-append-drop}
+use lib.ListN.{length, take, drop, take-append-drop, length-take}
 use lib.Seq.{sets, length-take-le, take-take}
 use mir.Syntax.{w32}
 use mir.Val.{toZ, ofZ, SFits}
@@ -23,6 +23,9 @@ use borrow.Rule.Slice.PartAt.{part-to-end}
 use borrow.Rule.Slice.PartMut.{putMid}
 use Rattle.laws.proofs.Never.{never, by-test}
 use Rattle.blocks.proofs.Sets.{drop-take}
+use Rattle.opus_defines.specs.Numbers.{refusalReport, reportOf}
+use Rattle.opus_defines.specs.Rules.{shifted}
+use Rattle.opus_defines.specs.declared.Answer.{Answer}
 use Rattle.opus_defines.specs.Outcome.{Effect, refusal, wrote, written, leaves, refuses}
 use Rattle.opus_defines.specs.declared.Refusal.{Refusal}
 use Rattle.opus_defines.specs.declared.Refusal.the-variants.{BadArg}
@@ -30,13 +33,14 @@ use Rattle.opus_defines.specs.declared.Verdict.{Verdict}
 use Rattle.opus_defines.specs.declared.Verdict.the-variants.{Accepted, Refused}
 use Rattle.opus_defines.proofs.Outcomes.{meets}
 use Rattle.packet_pad.specs.Lengths.{lengthOf, lengthsOf, bounded}
-use Rattle.packet_pad.specs.Pad.{padPacket}
+use Rattle.packet_pad.specs.Pad.{answered, padPacket}
+use Rattle.packet_pad.proofs.Calls.{pad-place}
 use Rattle.packet_pad.specs.declared.lengths.Lengths.the-variants.{Bad, Same, More}
 use Rattle.multistream.specs.declared.Passed.the-variants.{Past, Stuck}
 use Rattle.multistream.specs.Streams.{streamsOf, passStreams}
 use Rattle.multistream.specs.Pad.{behind, padLast, padStreams, streamsPadded}
 use Rattle.multistream.specs.Unpad.{Repacked, unread, repacked, repackStreams, repacks, unpadStreams, streamsUnpadded}
-use Rattle.multistream.specs.Parts.{verdictOf, packedOf}
+use Rattle.multistream.specs.Parts.{shiftedAnswer, verdictOf, packedOf}
 use Rattle.multistream.proofs.Lent.{put-back, sets-front}
 
 -- ---- the number of streams, and the lengths
@@ -105,9 +109,9 @@ module _ (p : List ℕ) (k new : ℕ) where
 
 -- bytes that stay in front
 behind-leaves : (s : List ℕ) (at : ℕ) → at ≤ length s → (x : Effect)
-    → (leaves (drop at s) x .number ≡ leaves s (behind (take at s) x) .number)
+    → (reportOf (shiftedAnswer at (answered x)) ≡ leaves s (behind (take at s) x) .report)
     × (take at s ++ leaves (drop at s) x .bytes ≡ leaves s (behind (take at s) x) .bytes)
-behind-leaves s at h (refusal e) = (refl, take-append-drop at s)
+behind-leaves s at h (refusal e) = (ap (λ n. refusalReport (shifted n e)) (sym (length-take-le at s h)), take-append-drop at s)
 behind-leaves s at h (wrote n vs) = (refl, sets-front s at vs h)
 
 module _ (s : List ℕ) (len new at : ℕ) (fits : len ≤ length s) where
@@ -126,16 +130,25 @@ module _ (s : List ℕ) (len new at : ℕ) (fits : len ≤ length s) where
         rw (left, ne-eqb (len - at) 0 (λ z. some (omega arith)), take-take at len s inside, drop-take at len s)
 
     -- as the code lends the last stream
-    pub last-behind : {n : ℤ} {v : List ℕ}
-        → let d = take (length s - at) (drop at s) in let x = leaves d (padPacket (take (len - at) d) (new - at)) in
-        let y = leaves s (padLast (take len s) new (Past at)) in
-        n ≡ x .number → v ≡ x .bytes → (n ≡ y .number) × (putMid at (length s - at) s v ≡ y .bytes)
-    last-behind {v = v} a b =
+    pub last-behind : {r t : Answer} {v : List ℕ}
+        → let d = take (length s - at) (drop at s) in let x = padPacket (take (len - at) d) (new - at) in
+        r ≡ answered x → t ≡ shiftedAnswer at r → v ≡ leaves d x .bytes
+        → (reportOf t ≡ leaves s (padLast (take len s) new (Past at)) .report)
+        × (putMid at (length s - at) s v ≡ leaves s (padLast (take len s) new (Past at)) .bytes)
+    last-behind {v = v} a t b =
         let x = padPacket (take (len - at) (drop at s)) (new - at) in
         let q = behind-leaves s at (omega arith) x in
         let a′ = rw (part-to-end s at) at a in
         let b′ = rw (part-to-end s at) at b in
-        meets (ap (leaves s) last-some) (a′ ∙ q .0) (rw (put-back s at v, b′) (q .1))
+        meets (ap (leaves s) last-some) (ap reportOf (t ∙ ap (shiftedAnswer at) a′) ∙ q .0) (rw (put-back s at v, b′) (q .1))
+
+    -- and the place of its refusal is within it
+    pub last-place : {r : Answer} → r ≡ answered (padPacket (take (len - at) (take (length s - at) (drop at s))) (new - at))
+        → reportOf r .place + at ≤ len
+    last-place e =
+        let d = drop at s in
+        let f = rw (part-to-end s at) at e in
+        rw f (omega (arith, pad-place (take (len - at) d) (new - at), length-take (len - at) d))
 
 -- ---- unpad: the verdict on the streams
 accepted-repacks : (x : Repacked) → verdictOf x ≡ Accepted → repacks x ≡ written (packedOf x)

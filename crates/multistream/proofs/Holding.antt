@@ -52,7 +52,7 @@ pub held : (sd : Bool) (next : List ℕ → Streams) (p : List ℕ) (xs : List S
 held sd next p xs e = go (read sd p) refl e
   where
     go : (x : Reading) → read sd p ≡ x → thenStreams next p x ≡ streams xs → Held sd next p xs
-    go (refused rule) r e = never (cc)
+    go (refused rule place) r e = never (cc)
     go (accepted toc ns first taken) r e = more (next (drop taken p)) refl e
       where
         more : (y : Streams) → next (drop taken p) ≡ y → andStreams (streamAt p toc ns first) y ≡ streams xs → Held sd next p xs
@@ -70,7 +70,8 @@ spelled-streams {c = c} w rest b next =
     rw (reads, spelled-six w, frames-are, drop-append-seam c rest)
 
 -- and it is passed over likewise
-spelled-passed : {six : ℕ} {c : List ℕ} {frames : List (List ℕ)} → Spells true six c frames → {n : ℕ} → length c ≡ n → (k at : ℕ) (rest : List ℕ)
+spelled-passed : {six : ℕ} {c : List ℕ} {frames : List (List ℕ)} → Spells true six c frames → {n : ℕ} → length c ≡ n
+    → (k at : ℕ) (rest : List ℕ)
     → passStreams k rest ≡ Past at → passStreams (suc k) (c ++ rest) ≡ Past (n + at)
 spelled-passed {c = c} w e k at rest h = rw (spelled-read w rest tt, drop-append-seam c rest, h, e)
 

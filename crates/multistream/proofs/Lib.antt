@@ -8,5 +8,6 @@ pub mod Holding
 pub mod Written
 pub mod Stages
 pub mod Roomy
+pub mod Naming
 pub mod Promises
 pub mod Examples

@@ -1,5 +1,7 @@
 -- Streams that are read one behind another.
 --     pass-found, pass-refused                           one stream, by the reader's answer
+--     reach-within, reach-lent                           the bytes passed are there, and so is the place of what cannot be read
+--     shifted-more                                       a place counted from further before
 --     Passing                                            what the loop keeps: the bytes so far with the streams from here on are all of them
 --     passing-start, passing-end                         its start and its end
 --     passing-stuck, passing-more                        a stream that cannot be read, and one that can
@@ -17,12 +19,16 @@ use borrow.Rule.Slice.PartAt.{part-to-end}
 use Rattle.laws.specs.Bytes.{Bytes}
 use Rattle.laws.proofs.Bytes.{bytes-drop}
 use Rattle.laws.proofs.Never.{never}
+use Rattle.opus_defines.specs.Rules.{ruleRefusal, shifted}
 use Rattle.opus_defines.specs.declared.Refusal.{Refusal}
+use Rattle.opus_defines.specs.declared.Refusal.the-variants.{BadArg, BufferTooSmall, InvalidPacket, InvalidState, Unreadable, CutShort}
+use Rattle.opus_defines.specs.declared.Verdict.{Verdict}
 use Rattle.opus_defines.specs.declared.Verdict.the-variants.{Accepted}
 use Rattle.opus_defines.specs.declared.Verdict.the-variants as Verdicts
 use Rattle.opus_toc.specs.Toc.{upperSix}
 use Rattle.opus_format.specs.Frames.{cut}
 use Rattle.opus_format.specs.Reading.{Reading, refused, accepted, read}
+use Rattle.opus_format.proofs.Within.{refused-within}
 use Rattle.opus.specs.Answers.{parsed}
 use Rattle.opus.specs.declared.Packet.{Packet}
 use Rattle.opus.proofs.Parsed.{parsed-accepted, parsed-refused}
@@ -31,7 +37,7 @@ use Rattle.multistream.specs.declared.Passed.{Passed}
 use Rattle.multistream.specs.declared.Passed.the-variants.{Past, Stuck}
 use Rattle.multistream.specs.Streams.{passBy, further, thenPass, passStreams}
 use Rattle.multistream.specs.Unpad.{Repacked, unread, repacked, ahead, repackReading, repackStreams}
-use Rattle.multistream.specs.Parts.{verdictBy, verdictOf}
+use Rattle.multistream.specs.Parts.{reach, verdictBy, verdictOf}
 use Rattle.multistream.proofs.Bounds.{taken-within}
 
 -- ---- one stream, with the reader's answer r
@@ -40,25 +46,59 @@ module _ (sd : Bool) (s : List ℕ) (r : Packet) (p : r ≡ parsed sd s) where
   pass-found v = rw (parsed-accepted sd s r p v .means)
 
   pub pass-refused : (e : Refusal) → r .verdict ≡ Verdicts.Refused e → length s ≤ 65535 → Stuck e ≡ passBy (read sd s)
-  pass-refused e v short = let q = parsed-refused sd s r p e v short in rw (q .2) (ap Stuck (q .1))
+  pass-refused e v short = let q = parsed-refused sd s r p e v short in rw (q .3) (ap Stuck (q .2))
 
 pass-inside : (sd : Bool) (s : List ℕ) (n : ℕ) → Bytes s → passBy (read sd s) ≡ Past n → n ≤ length s
 pass-inside sd s n bytes e = go (read sd s) refl e
   where
     go : (x : Reading) → read sd s ≡ x → passBy x ≡ Past n → n ≤ length s
-    go (refused rule) q e = never (cc)
+    go (refused rule place) q e = never (cc)
     go (accepted toc ns first taken) q e =
         let same : taken ≡ n = cc in
         omega (arith, taken-within sd s toc ns first taken bytes q)
 
+-- the bytes passed are there, and so is the place of what cannot be read
+pub reach-within : (sd : Bool) (s : List ℕ) → Bytes s → reach (passBy (read sd s)) ≤ length s
+unfolding ruleRefusal
+reach-within sd s bytes = go (read sd s) refl
+  where
+    go : (x : Reading) → read sd s ≡ x → reach (passBy x) ≤ length s
+    go (refused rule place) q = refused-within sd s rule place q
+    go (accepted toc ns first taken) q = taken-within sd s toc ns first taken bytes q
+
+-- as the code lends the stream
+pub reach-lent : (sd : Bool) (s : List ℕ) (at : ℕ) → Bytes s → at ≤ length s → {x : Passed} → x
+    ≡ passBy (read sd (take (length s - at) (drop at s)))
+    → at + reach x ≤ length s
+reach-lent sd s at bytes h e =
+    rw e (rw (part-to-end s at) (omega (arith, reach-within sd (drop at s) (bytes-drop at s bytes), length-drop at s)))
+
 -- ---- several streams
+pub shifted-none : (e : Refusal) → shifted 0 e ≡ e
+unfolding ruleRefusal
+shifted-none BadArg = refl
+shifted-none BufferTooSmall = refl
+shifted-none InvalidPacket = refl
+shifted-none InvalidState = refl
+shifted-none (Unreadable rule place) = let e : 0 + place ≡ place = omega arith in rw e
+shifted-none (CutShort rule) = refl
+
+pub shifted-more : (n m : ℕ) (e : Refusal) → shifted n (shifted m e) ≡ shifted (n + m) e
+unfolding ruleRefusal
+shifted-more n m BadArg = refl
+shifted-more n m BufferTooSmall = refl
+shifted-more n m InvalidPacket = refl
+shifted-more n m InvalidState = refl
+shifted-more n m (Unreadable rule place) = let e : n + (m + place) ≡ n + m + place = omega arith in rw e
+shifted-more n m (CutShort rule) = refl
+
 further-none : (x : Passed) → further 0 x ≡ x
 further-none (Past at) = let e : 0 + at ≡ at = omega arith in rw e
-further-none (Stuck e) = refl
+further-none (Stuck e) = ap Stuck (shifted-none e)
 
 further-more : (n m : ℕ) (x : Passed) → further n (further m x) ≡ further (n + m) x
 further-more n m (Past at) = let e : n + (m + at) ≡ n + m + at = omega arith in rw e
-further-more n m (Stuck e) = refl
+further-more n m (Stuck e) = ap Stuck (shifted-more n m e)
 
 -- i of k streams are passed, up to the place `at`
 pub record Passing (s : List ℕ) (k at i : ℕ) : Type 0 where
@@ -85,12 +125,12 @@ module _ (s : List ℕ) (k : ℕ) where
       answer : passBy (read true (drop at s)) ≡ x
       answer = sym (rw (part-to-end s at) at p)
 
-      pub passing-stuck : (e : Refusal) → x ≡ Stuck e → x ≡ passStreams k s
+      pub passing-stuck : (e : Refusal) → x ≡ Stuck e → further at x ≡ passStreams k s
       passing-stuck e v = go (z .left) (z .count) (z .rest)
         where
-          go : (left : ℕ) → left + i ≡ k → further at (passStreams left (drop at s)) ≡ passStreams k s → x ≡ passStreams k s
+          go : (left : ℕ) → left + i ≡ k → further at (passStreams left (drop at s)) ≡ passStreams k s → further at x ≡ passStreams k s
           go zero c q = absurd (omega arith)
-          go (suc left) c q = v ∙ rw (answer, v) at q
+          go (suc left) c q = ap (further at) v ∙ rw (answer, v) at q
 
       module _ (n : ℕ) (v : x ≡ Past n) (bytes : Bytes s) where
         pub passing-more : Passing s k (at + n) (i + 1)
@@ -107,12 +147,20 @@ module _ (s : List ℕ) (k : ℕ) where
                 }
 
 -- ---- all streams
-pub ahead-verdict : (q : List ℕ) (x : Repacked) → verdictOf (ahead q x) ≡ verdictOf x
-ahead-verdict q (unread e) = refl
-ahead-verdict q (repacked v) = refl
+abbrev pub shiftedVerdict : ℕ → Verdict → Verdict
+shiftedVerdict n Accepted = Accepted
+shiftedVerdict n (Verdicts.Refused e) = Verdicts.Refused (shifted n e)
+
+pub ahead-verdict : (q : List ℕ) (n : ℕ) (x : Repacked) → verdictOf (ahead q n x) ≡ shiftedVerdict n (verdictOf x)
+ahead-verdict q n (unread e) = refl
+ahead-verdict q n (repacked v) = refl
+
+further-verdict : (n : ℕ) (x : Passed) → verdictBy (further n x) ≡ shiftedVerdict n (verdictBy x)
+further-verdict n (Past at) = refl
+further-verdict n (Stuck e) = refl
 
 last-verdict : (s : List ℕ) (x : Reading) → verdictBy (passBy x) ≡ verdictOf (repackReading false (λ t. repacked []) s x)
-last-verdict s (refused rule) = refl
+last-verdict s (refused rule place) = refl
 last-verdict s (accepted toc ns first taken) = refl
 
 -- what is known of the streams behind the first
@@ -120,34 +168,44 @@ further-was : (n at : ℕ) (x : Passed) → further n x ≡ Past at → (b : ℕ
 further-was n at (Past b) e = (b, refl, cc)
 further-was n at (Stuck f) e = never (cc)
 
-further-stuck : (n : ℕ) (x : Passed) (e : Refusal) → further n x ≡ Stuck e → x ≡ Stuck e
+further-stuck : (n : ℕ) (x : Passed) (e : Refusal) → further n x ≡ Stuck e → (f : Refusal) × (x ≡ Stuck f) × (shifted n f ≡ e)
 further-stuck n (Past b) e h = never (cc)
-further-stuck n (Stuck f) e h = cc
+further-stuck n (Stuck f) e h = (f, refl, cc)
 
 pub all-stuck : (k : ℕ) (s : List ℕ) (e : Refusal) → passStreams k s ≡ Stuck e → Verdicts.Refused e ≡ verdictOf (repackStreams k s)
 all-stuck zero s e h = never (cc)
-all-stuck (suc k) s e h = go (λ t. all-stuck k t e) (read true s) h
+all-stuck (suc k) s e h = go (all-stuck k) (read true s) h
   where
-    go : ((t : List ℕ) → passStreams k t ≡ Stuck e → Verdicts.Refused e ≡ verdictOf (repackStreams k t)) → (x : Reading)
+    go : ((t : List ℕ) (f : Refusal) → passStreams k t ≡ Stuck f → Verdicts.Refused f ≡ verdictOf (repackStreams k t)) → (x : Reading)
         → thenPass (passStreams k) s (passBy x) ≡ Stuck e → Verdicts.Refused e ≡ verdictOf (repackReading true (repackStreams k) s x)
-    go next (refused rule) h = cc
+    go next (refused rule place) h = cc
     go next (accepted toc ns first taken) h =
-        next (drop taken s) (further-stuck taken (passStreams k (drop taken s)) e h)
-        ∙ sym (ahead-verdict (compact true (upperSix toc) (cut ns (drop first s))) (repackStreams k (drop taken s)))
+        let f = further-stuck taken (passStreams k (drop taken s)) e h in
+        ap Verdicts.Refused (sym (f .2))
+        ∙ (ap (shiftedVerdict taken) (next (drop taken s) (f .0) (f .1))
+        ∙ sym (ahead-verdict (compact true (upperSix toc) (cut ns (drop first s))) taken (repackStreams k (drop taken s))))
 
 pub all-last : (k : ℕ) (s : List ℕ) (at : ℕ) → passStreams k s ≡ Past at
-    → verdictBy (passBy (read false (drop at s))) ≡ verdictOf (repackStreams k s)
+    → verdictBy (further at (passBy (read false (drop at s)))) ≡ verdictOf (repackStreams k s)
 all-last zero s at h =
     let none : 0 ≡ at = cc in
-    rw (← none) (last-verdict s (read false s))
+    rw (← none, further-none (passBy (read false s))) (last-verdict s (read false s))
 all-last (suc k) s at h = go (λ t. all-last k t) (read true s) h
   where
-    go : ((t : List ℕ) (at : ℕ) → passStreams k t ≡ Past at → verdictBy (passBy (read false (drop at t))) ≡ verdictOf (repackStreams k t))
-        → (x : Reading) → thenPass (passStreams k) s (passBy x) ≡ Past at
-        → verdictBy (passBy (read false (drop at s))) ≡ verdictOf (repackReading true (repackStreams k) s x)
-    go next (refused rule) h = never (cc)
+    Last : Type 0
+    Last =
+        (t : List ℕ) (at : ℕ) → passStreams k t ≡ Past at → verdictBy (further at (passBy (read false (drop at t)))) ≡ verdictOf (repackStreams k t)
+
+    go : Last → (x : Reading) → thenPass (passStreams k) s (passBy x) ≡ Past at
+        → verdictBy (further at (passBy (read false (drop at s)))) ≡ verdictOf (repackReading true (repackStreams k) s x)
+    go next (refused rule place) h = never (cc)
     go next (accepted toc ns first taken) h =
         let w = further-was taken at (passStreams k (drop taken s)) h in
         let there : drop (w .0) (drop taken s) ≡ drop at s = drop-drop (w .0) taken s ∙ ap (λ (n : ℕ). drop n s) (w .2) in
-        (rw there at (next (drop taken s) (w .0) (w .1)))
-        ∙ sym (ahead-verdict (compact true (upperSix toc) (cut ns (drop first s))) (repackStreams k (drop taken s)))
+        let last = passBy (read false (drop at s)) in
+        let behind : verdictBy (further (w .0) last) ≡ verdictOf (repackStreams k (drop taken s)) = rw there at (next (drop taken s) (w .0) (w .1)) in
+        ap (λ n. verdictBy (further n last)) (sym (w .2))
+        ∙ (ap verdictBy (sym (further-more taken (w .0) last))
+        ∙ (further-verdict taken (further (w .0) last)
+        ∙ (ap (shiftedVerdict taken) behind
+        ∙ sym (ahead-verdict (compact true (upperSix toc) (cut ns (drop first s))) taken (repackStreams k (drop taken s))))))

@@ -13,6 +13,7 @@ use Rattle.laws.proofs.Bytes.{bytes-take}
 use Rattle.laws.proofs.Never.{by-test}
 use Rattle.opus_defines.specs.Outcome.{writes}
 use Rattle.opus_defines.proofs.Outcomes.{refusal-keeps}
+use Rattle.opus.specs.Named.{Named}
 use Rattle.packet_pad.specs.Lengths.{lengthOf, Outside, lengthsOf, bounded, byLengths}
 use Rattle.packet_pad.proofs.Given.{length-outside, first-outside, new-outside}
 use Rattle.packet_pad.specs.Pad.{padsTo}
@@ -23,6 +24,7 @@ use Rattle.multistream.specs.Reading.{Stream, streams, readStreams, comp
 use Rattle.multistream.proofs.Calls.{pad-refuses, unpad-refuses}
 use Rattle.multistream.proofs.Written.{compact-within, unpad-compact, readable-some-bytes, pad-equal, pad-holds, pad-unpad}
 use Rattle.multistream.proofs.Holding.{compact-holds}
+use Rattle.multistream.proofs.Naming.{pad-named, unpad-named}
 use Rattle.multistream.proofs.Stages.{pad-stages, unpad-again}
 use Rattle.multistream.proofs.Roomy.{unpad-roomy}
 
@@ -64,32 +66,39 @@ module _ (s : List ℕ) (bytes : Bytes s) (len : ℕ) (fits : len ≤ length s) 
   pad-by-stages = pad-stages s bytes len fits most k few xs r
 
   -- Unpadded twice, it is what unpadding once gives, in number and bytes.
-  pub unpad-twice : let once = streamsUnpadded s (pos len) (pos (suc k)) in streamsUnpadded (once .bytes) (once .number) (pos (suc k)) ≡ once
+  pub unpad-twice : let once = streamsUnpadded s (pos len) (pos (suc k)) in streamsUnpadded (once .bytes) (once .report .number) (pos (suc k)) ≡ once
   unpad-twice = unpad-again s bytes len fits most k few xs r
 
 -- Unpad never lacks room: whatever the buffer, the length and the number of streams, it does not answer -2.
-pub unpad-never-lacks-room : (s : List ℕ) (len nb : ℤ) → streamsUnpadded s len nb .number ≡ negsuc 1 → ⊥
+pub unpad-never-lacks-room : (s : List ℕ) (len nb : ℤ) → streamsUnpadded s len nb .report .number ≡ negsuc 1 → ⊥
 unpad-never-lacks-room = unpad-roomy
 
 -- A refusal leaves every byte.
-pub refused-pad-changes-nothing : (s : List ℕ) (len new nb : ℤ) (n : ℕ) → streamsPadded s len new nb .number ≡ negsuc n
+pub refused-pad-changes-nothing : (s : List ℕ) (len new nb : ℤ) (n : ℕ) → streamsPadded s len new nb .report .number ≡ negsuc n
     → streamsPadded s len new nb .bytes ≡ s
 unfolding streamsPadded
 refused-pad-changes-nothing s len new nb n e =
     refusal-keeps s (bounded (λ k. byLengths (λ n m. padStreams k (take n s) m) (lengthsOf s len new)) (streamsOf nb)) n e
 
-pub refused-unpad-changes-nothing : (s : List ℕ) (len nb : ℤ) (n : ℕ) → streamsUnpadded s len nb .number ≡ negsuc n
+pub refused-unpad-changes-nothing : (s : List ℕ) (len nb : ℤ) (n : ℕ) → streamsUnpadded s len nb .report .number ≡ negsuc n
     → streamsUnpadded s len nb .bytes ≡ s
 unfolding streamsUnpadded
 refused-unpad-changes-nothing s len nb n e =
     refusal-keeps s (bounded (λ k. bounded (λ n. unpadStreams k (take n s)) (lengthOf s len)) (streamsOf nb)) n e
 
 -- A length that is negative, 0, above the buffer or above 65,535 is refused by -1, whatever else is wrong.
-pub pad-length-outside : (s : List ℕ) (len new nb : ℤ) → Outside s len → streamsPadded s len new nb .number ≡ negsuc 0
+pub pad-length-outside : (s : List ℕ) (len new nb : ℤ) → Outside s len → streamsPadded s len new nb .report .number ≡ negsuc 0
 pad-length-outside s len new nb o = rw (pad-refuses s len new nb (first-outside s len new o))
 
-pub pad-new-length-outside : (s : List ℕ) (len new nb : ℤ) → Outside s new → streamsPadded s len new nb .number ≡ negsuc 0
+pub pad-new-length-outside : (s : List ℕ) (len new nb : ℤ) → Outside s new → streamsPadded s len new nb .report .number ≡ negsuc 0
 pad-new-length-outside s len new nb o = rw (pad-refuses s len new nb (new-outside s len new o))
 
-pub unpad-length-outside : (s : List ℕ) (len nb : ℤ) → Outside s len → streamsUnpadded s len nb .number ≡ negsuc 0
+pub unpad-length-outside : (s : List ℕ) (len nb : ℤ) → Outside s len → streamsUnpadded s len nb .report .number ≡ negsuc 0
 unpad-length-outside s len nb o = rw (unpad-refuses s len nb (length-outside s len o))
+
+-- M-100. Rule and place are those of the reader's refusal of a stream, the place counted from the packet's front, and 0 in every other answer.
+pub pad-names : (s : List ℕ) → Bytes s → (len new nb : ℤ) → Named (take (lengthOf s len) s) (streamsPadded s len new nb .report)
+pad-names = pad-named
+
+pub unpad-names : (s : List ℕ) (len nb : ℤ) → Named (take (lengthOf s len) s) (streamsUnpadded s len nb .report)
+unpad-names = unpad-named

@@ -24,7 +24,8 @@ use Rattle.laws.specs.Bytes.{Bytes}
 use Rattle.laws.proofs.Bytes.{bytes-drop, bytes-take}
 use Rattle.laws.proofs.Never.{never, by-test}
 use Rattle.blocks.proofs.Sets.{sets-append, drop-sets-past, drop-take}
-use Rattle.opus_defines.specs.declared.Verdict.the-variants.{Accepted}
+use Rattle.opus_defines.specs.declared.Verdict.{Verdict}
+use Rattle.opus_defines.specs.declared.Verdict.the-variants.{Accepted, Refused}
 use Rattle.opus_toc.specs.Toc.{upperSix}
 use Rattle.opus_format.specs.Frames.{cut, total}
 use Rattle.opus_format.specs.Reading.{Reading, refused, accepted, read}
@@ -40,7 +41,7 @@ use Rattle.multistream.specs.declared.Places.{Places}
 use Rattle.multistream.specs.Unpad.{Repacked, unread, repacked, ahead, repackReading, repackStreams}
 use Rattle.multistream.specs.Parts.{stream, compactBy, compactOf, takenBy, isAccepted, nextPlaces, verdictOf, packedOf}
 use Rattle.multistream.proofs.Bounds.{by-within}
-use Rattle.multistream.proofs.Passing.{ahead-verdict}
+use Rattle.multistream.proofs.Passing.{shifted-none, shifted-more, shiftedVerdict, ahead-verdict}
 use Rattle.multistream.proofs.Lent.{sets-lent}
 
 -- ---- one stream
@@ -50,7 +51,7 @@ unfolding parsed
 accepted-verdict sd p r e h ok = go (read sd p) (rw (le-ltb 65535 (length p) h) at e) ok
   where
     go : (x : Reading) → r ≡ packetOf x → isAccepted x ≡ true → r .verdict ≡ Accepted
-    go (refused rule) e a = never (cc)
+    go (refused rule place) e a = never (cc)
     go (accepted toc ns first taken) e a = ap (λ (q : Packet). q .verdict) e
 
 -- the reader's answer, with its lengths in a lent array
@@ -118,21 +119,25 @@ module _ (sd : Bool) (s : List ℕ) (to from len : ℕ) (places : (to ≤ from) 
 -- where the verdict is good, the stream was read
 module _ (sd : Bool) (next : List ℕ → Repacked) (p : List ℕ) where
   was-read : (x : Reading) → verdictOf (repackReading sd next p x) ≡ Accepted → isAccepted x ≡ true
-  was-read (refused rule) v = never (cc)
+  was-read (refused rule place) v = never (cc)
   was-read (accepted toc ns first taken) v = refl
 
   was-repacked : (x : Reading) → verdictOf (repackReading sd next p x) ≡ Accepted
-      → repackReading sd next p x ≡ ahead (compactBy sd p x) (next (drop (takenBy x) p))
-  was-repacked (refused rule) v = never (cc)
+      → repackReading sd next p x ≡ ahead (compactBy sd p x) (takenBy x) (next (drop (takenBy x) p))
+  was-repacked (refused rule place) v = never (cc)
   was-repacked (accepted toc ns first taken) v = refl
 
-ahead-more : (a b : List ℕ) (x : Repacked) → ahead a (ahead b x) ≡ ahead (a ++ b) x
-ahead-more a b (unread e) = refl
-ahead-more a b (repacked v) = rw (append-assoc a b v)
+ahead-more : (a b : List ℕ) (n m : ℕ) (x : Repacked) → ahead a n (ahead b m x) ≡ ahead (a ++ b) (n + m) x
+ahead-more a b n m (unread e) = ap unread (shifted-more n m e)
+ahead-more a b n m (repacked v) = rw (append-assoc a b v)
 
-ahead-none : (x : Repacked) → ahead [] x ≡ x
-ahead-none (unread e) = refl
+ahead-none : (x : Repacked) → ahead [] 0 x ≡ x
+ahead-none (unread e) = ap unread (shifted-none e)
 ahead-none (repacked v) = refl
+
+accepted-shifted : (n : ℕ) (v : Verdict) → shiftedVerdict n v ≡ Accepted → v ≡ Accepted
+accepted-shifted n Accepted e = refl
+accepted-shifted n (Refused r) e = never (cc)
 
 -- ---- the loop: i of k streams are rewritten and end at `to`, the next to read is at `from`; s was the buffer at first, d is it now
 pub record Repacking (s : List ℕ) (len k : ℕ) (d : List ℕ) (to from i : ℕ) : Type 0 where
@@ -143,7 +148,7 @@ pub record Repacking (s : List ℕ) (len k : ℕ) (d : List ℕ) (to from i : �
   pub inside : from ≤ len
   pub left : ℕ
   pub count : left + i ≡ k
-  pub rest : ahead done (repackStreams left (drop from (take len s))) ≡ repackStreams k (take len s)
+  pub rest : ahead done from (repackStreams left (drop from (take len s))) ≡ repackStreams k (take len s)
 
 module _ (s : List ℕ) (len k : ℕ) where
   pub repacking-start : Repacking s len k s 0 0 0
@@ -176,7 +181,9 @@ module _ (s : List ℕ) (len k : ℕ) where
     in-places = (z .behind, z .inside, omega (arith, same-size), short)
 
     verdict-is : verdictOf (repackStreams (z .left) rest) ≡ Accepted
-    verdict-is = sym (ahead-verdict (z .done) (repackStreams (z .left) rest)) ∙ (ap verdictOf (z .rest) ∙ good)
+    verdict-is =
+        accepted-shifted from (verdictOf (repackStreams (z .left) rest))
+        (sym (ahead-verdict (z .done) from (repackStreams (z .left) rest)) ∙ (ap verdictOf (z .rest) ∙ good))
 
     -- the next stream, by the delimiting
     module _ (sd : Bool) (next : List ℕ → Repacked) (e : repackStreams (z .left) rest ≡ repackReading sd next rest (read sd rest)) where
@@ -200,10 +207,11 @@ module _ (s : List ℕ) (len k : ℕ) where
         next-size : length (z .done ++ compactOf sd rest) ≡ at .to
         next-size = rw (a, unread-are, length-append (z .done) (compactOf sd rest), z .size)
 
-        next-rest : ahead (z .done ++ compactOf sd rest) (next (drop (takenBy (read sd rest)) rest)) ≡ repackStreams k (take len s)
+        next-rest : let n = takenBy (read sd rest) in ahead (z .done ++ compactOf sd rest) (from + n) (next (drop n rest)) ≡ repackStreams k (take len s)
         next-rest =
-            sym (ahead-more (z .done) (compactOf sd rest) (next (drop (takenBy (read sd rest)) rest)))
-            ∙ (ap (ahead (z .done)) (sym (was-repacked sd next rest (read sd rest) good-reading)) ∙ (ap (ahead (z .done)) (sym e) ∙ z .rest))
+            let n = takenBy (read sd rest) in
+            sym (ahead-more (z .done) (compactOf sd rest) from n (next (drop n rest)))
+            ∙ (ap (ahead (z .done) from) (sym (was-repacked sd next rest (read sd rest) good-reading)) ∙ (ap (ahead (z .done) from) (sym e) ∙ z .rest))
 
         next-from : at .from ≡ from + takenBy (read sd rest)
         next-from = rw (a, unread-are)

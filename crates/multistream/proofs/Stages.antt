@@ -24,7 +24,8 @@ use Rattle.multistream.specs.Unpad.{streamsUnpadded}
 use Rattle.multistream.specs.Reading.{Stream, streams, readStreams, compactStreams}
 use Rattle.multistream.proofs.Calls.{pad-same, pad-more}
 use Rattle.multistream.proofs.Holding.{readable-some, compact-holds}
-use Rattle.multistream.proofs.Written.{count, compact-within, unpad-compact, readable-some-bytes, pad-equal, refill, refill-size, refill-again, pad-refills}
+use Rattle.multistream.proofs.Written.{count, compact-within, unpad-compact, readable-some-bytes, pad-equal}
+use Rattle.multistream.proofs.Written.{refill, refill-size, refill-again, pad-refills}
 
 -- what holds streams has a byte
 holds-some : (k : ℕ) (xs : List Stream) (p : List ℕ) → readStreams k p ≡ streams xs → 1 ≤ length p
@@ -70,7 +71,7 @@ module _ (s : List ℕ) (bytes : Bytes s) (len : ℕ) (fits : len ≤ length s) 
       (pad-on n less m room short on ∙ sym (pad-refills s bytes len fits most k few xs r m (omega arith) room short)))
 
   -- ---- unpad
-  pub unpad-again : let once = streamsUnpadded s (pos len) (pos (suc k)) in streamsUnpadded (once .bytes) (once .number) (pos (suc k)) ≡ once
+  pub unpad-again : let once = streamsUnpadded s (pos len) (pos (suc k)) in streamsUnpadded (once .bytes) (once .report .number) (pos (suc k)) ≡ once
   unpad-again =
       let c = compactStreams k xs in
       let p = take len s in

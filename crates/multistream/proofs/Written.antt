@@ -111,7 +111,8 @@ module _ (k : ℕ) (p : List ℕ) (bytes : Bytes p) (xs : List Stream) (r : read
   pub refilled-holds : (new : ℕ) → readStreams k (refilled new) ≡ streams xs
   refilled-holds new = last .keeps (filled new) (filled-reads new)
 
-pub compact-within : (k : ℕ) (p : List ℕ) → Bytes p → (xs : List Stream) → readStreams k p ≡ streams xs → length (compactStreams k xs) ≤ length p
+pub compact-within : (k : ℕ) (p : List ℕ) → Bytes p → (xs : List Stream) → readStreams k p ≡ streams xs
+    → length (compactStreams k xs) ≤ length p
 compact-within k p bytes xs r = rw (repack-compact k p xs r) at (packed-within k p bytes)
 
 -- ---- the packet in the first len bytes of a buffer
@@ -158,7 +159,8 @@ module _ (s : List ℕ) (bytes : Bytes s) (len : ℕ) (fits : len ≤ length s) 
         pad-more s (pos len) (pos new) (pos (suc k)) (suc k) (count k few) (λ z. omega arith) len new given
         ∙ ap (leaves s) (pad-writes k (take len s) all-bytes xs r new)
 
-    pub pad-holds : (q : List ℕ) × (streamsPadded s (pos len) (pos new) (pos (suc k)) ≡ padsTo q s) × (readStreams k q ≡ streams xs) × (length q ≡ new)
+    pub pad-holds : (q : List ℕ) × (streamsPadded s (pos len) (pos new) (pos (suc k)) ≡ padsTo q s) × (readStreams k q ≡ streams xs)
+        × (length q ≡ new)
     pad-holds = (refill new, pad-refills, refilled-holds k (take len s) all-bytes xs r new, refill-size new (omega arith))
 
     pub pad-unpad : let after = streamsPadded s (pos len) (pos new) (pos (suc k)) .bytes in

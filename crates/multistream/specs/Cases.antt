@@ -3,17 +3,22 @@ use Prim.Native.Nat.{ℕ}
 use mathlib.Core.List.{List, [], _∷_, _++_}
 use lib.IntN.{ℤ, pos, negsuc}
 use lib.ListN.{replicate}
+use Rattle.opus_defines.specs.Numbers.{plain}
 use Rattle.opus_defines.specs.Outcome.{Outcome}
 use Rattle.opus_size.specs.Answers.{encodeSize}
-use Rattle.opus.specs.Cases.{Shown, outcome, Case, shows, readingCases}
+use Rattle.opus.specs.Cases.{Shown, outcome, Case, shows, readingCases, placeCases}
 use Rattle.packet_pad.specs.Pad.{padded}
 use Rattle.packet_pad.specs.Unpad.{unpadded}
 use Rattle.multistream.specs.Pad.{streamsPadded}
 use Rattle.multistream.specs.Unpad.{streamsUnpadded}
 
--- a number, and the bytes of the buffer
+-- a number without rule and place, and the bytes of the buffer
 abbrev pub leaves : ℤ → List ℕ → Shown
-leaves n s = outcome (record { number = n; bytes = s })
+leaves n s = outcome (record { report = plain n; bytes = s })
+
+-- -4 with the rule that is broken and its place
+abbrev pub breaks : ℕ → ℕ → List ℕ → Shown
+breaks rule place s = outcome (record { report = record { number = negsuc 3; rule = rule; place = place }; bytes = s })
 
 -- the packet 00 AA in a buffer with so many zeros behind it
 abbrev pub short : ℕ → List ℕ
@@ -28,7 +33,7 @@ padCases =
     ∷ shows (outcome (padded (short 257) (pos 2) (pos 259))) (leaves (pos 0) (0x03 ∷ 0x41 ∷ 255 ∷ 0 ∷ 0xaa ∷ replicate 254 0))
     ∷ shows (outcome (unpadded (0x03 ∷ 0x02 ∷ 0xaa ∷ 0xbb ∷ []) (pos 4))) (leaves (pos 3) (0x01 ∷ 0xaa ∷ 0xbb ∷ 0xbb ∷ []))
     ∷ shows (outcome (streamsPadded (0x00 ∷ 0x01 ∷ 0xaa ∷ 0 ∷ []) (pos 3) (pos 4) (pos 2))) (leaves (negsuc 0) (0x00 ∷ 0x01 ∷ 0xaa ∷ 0 ∷ []))
-    ∷ shows (outcome (streamsUnpadded (0x00 ∷ 0x01 ∷ 0xaa ∷ []) (pos 3) (pos 2))) (leaves (negsuc 3) (0x00 ∷ 0x01 ∷ 0xaa ∷ []))
+    ∷ shows (outcome (streamsUnpadded (0x00 ∷ 0x01 ∷ 0xaa ∷ []) (pos 3) (pos 2))) (breaks 1 3 (0x00 ∷ 0x01 ∷ 0xaa ∷ []))
     ∷ []
 
 -- document 02, M-109: rebuilt to between 1 byte and the bytes taken
@@ -55,14 +60,29 @@ onePadded = 0x03 ∷ 0x41 ∷ 0x01 ∷ 0xaa ∷ 0x00 ∷ []
 
 abbrev pub stageCases : List Case
 stageCases =
-    shows (outcome (padded (padded twoFrames (pos 4) (pos 6) .bytes) (pos 6) (pos 8))) (leaves (pos 0) (0x03 ∷ 0x42 ∷ 0x03 ∷ 0xaa ∷ 0xbb ∷ replicate 3 0))
+    shows (outcome (padded (padded twoFrames (pos 4) (pos 6) .bytes) (pos 6) (pos 8)))
+    (leaves (pos 0) (0x03 ∷ 0x42 ∷ 0x03 ∷ 0xaa ∷ 0xbb ∷ replicate 3 0))
     ∷ shows (outcome (padded twoFrames (pos 4) (pos 8))) (leaves (pos 0) (0x03 ∷ 0x42 ∷ 0x03 ∷ 0xaa ∷ 0xbb ∷ replicate 3 0))
-    ∷ shows (outcome (padded (0x01 ∷ 0xaa ∷ 0xbb ∷ replicate 5 0) (pos 3) (pos 8))) (leaves (pos 0) (0x03 ∷ 0x42 ∷ 0x03 ∷ 0xaa ∷ 0xbb ∷ replicate 3 0))
+    ∷ shows (outcome (padded (0x01 ∷ 0xaa ∷ 0xbb ∷ replicate 5 0) (pos 3) (pos 8)))
+    (leaves (pos 0) (0x03 ∷ 0x42 ∷ 0x03 ∷ 0xaa ∷ 0xbb ∷ replicate 3 0))
     ∷ shows (outcome (streamsPadded (streamsPadded twoStreams (pos 5) (pos 7) (pos 2) .bytes) (pos 7) (pos 9) (pos 2)))
     (leaves (pos 0) (0x00 ∷ 0x01 ∷ 0xaa ∷ 0x03 ∷ 0x41 ∷ 0x02 ∷ 0xbb ∷ replicate 2 0))
-    ∷ shows (outcome (streamsPadded twoStreams (pos 5) (pos 9) (pos 2))) (leaves (pos 0) (0x00 ∷ 0x01 ∷ 0xaa ∷ 0x03 ∷ 0x41 ∷ 0x02 ∷ 0xbb ∷ replicate 2 0))
+    ∷ shows (outcome (streamsPadded twoStreams (pos 5) (pos 9) (pos 2)))
+    (leaves (pos 0) (0x00 ∷ 0x01 ∷ 0xaa ∷ 0x03 ∷ 0x41 ∷ 0x02 ∷ 0xbb ∷ replicate 2 0))
     ∷ shows (outcome (unpadded onePadded (pos 5))) (leaves (pos 2) (0x00 ∷ 0xaa ∷ 0x01 ∷ 0xaa ∷ 0x00 ∷ []))
     ∷ shows (outcome (unpadded (unpadded onePadded (pos 5) .bytes) (pos 2))) (leaves (pos 2) (0x00 ∷ 0xaa ∷ 0x01 ∷ 0xaa ∷ 0x00 ∷ []))
+    ∷ []
+
+-- document 02, M-100: the place is counted from the buffer's front; where no byte is left for a stream, it is the packet's end
+abbrev pub streamPlaces : List Case
+streamPlaces =
+    shows (outcome (streamsUnpadded (0x00 ∷ 0x01 ∷ 0xaa ∷ 0x03 ∷ []) (pos 4) (pos 2))) (breaks 5 4 (0x00 ∷ 0x01 ∷ 0xaa ∷ 0x03 ∷ []))
+    ∷ shows (outcome (streamsPadded (0x00 ∷ 0x01 ∷ 0xaa ∷ 0x03 ∷ 0x00 ∷ []) (pos 4) (pos 5) (pos 2)))
+    (breaks 5 4 (0x00 ∷ 0x01 ∷ 0xaa ∷ 0x03 ∷ 0x00 ∷ []))
+    ∷ shows (outcome (streamsPadded (0x00 ∷ 0x01 ∷ 0xaa ∷ 0x00 ∷ 0x02 ∷ 0xbb ∷ 0x00 ∷ []) (pos 6) (pos 7) (pos 3)))
+    (breaks 8 4 (0x00 ∷ 0x01 ∷ 0xaa ∷ 0x00 ∷ 0x02 ∷ 0xbb ∷ 0x00 ∷ []))
+    ∷ shows (outcome (unpadded (0x03 ∷ 0x83 ∷ 0x01 ∷ 0x01 ∷ 0xaa ∷ []) (pos 5))) (breaks 7 4 (0x03 ∷ 0x83 ∷ 0x01 ∷ 0x01 ∷ 0xaa ∷ []))
+    ∷ shows (outcome (padded (0x03 ∷ 0x82 ∷ 0x01 ∷ 0x00 ∷ []) (pos 3) (pos 4))) (breaks 7 2 (0x03 ∷ 0x82 ∷ 0x01 ∷ 0x00 ∷ []))
     ∷ []
 
 -- document 01's order of refusals: more than one fault at once, and the first one in the order gives the number. The packet 03 00 cannot be read.
@@ -72,6 +92,10 @@ unreadable = 0x03 ∷ 0x00 ∷ []
 
 abbrev pub keeps : Outcome → ℤ → List ℕ → Case
 keeps o n s = shows (outcome o) (leaves n s)
+
+-- the packet 03 00 is refused by rule 5, at byte 1
+abbrev pub refusesIt : Outcome → List ℕ → Case
+refusesIt o s = shows (outcome o) (breaks 5 1 s)
 
 abbrev pub lengthOrder : List Case
 lengthOrder =
@@ -88,7 +112,7 @@ padOrder =
     ∷ keeps (padded unreadable (negsuc 0) (negsuc 0)) (negsuc 0) unreadable
     ∷ keeps (padded unreadable (pos 2) (pos 2)) (pos 0) unreadable
     ∷ keeps (padded unreadable (pos 2) (pos 1)) (negsuc 0) unreadable
-    ∷ keeps (padded (0x03 ∷ 0x00 ∷ 0x00 ∷ []) (pos 2) (pos 3)) (negsuc 3) (0x03 ∷ 0x00 ∷ 0x00 ∷ [])
+    ∷ refusesIt (padded (0x03 ∷ 0x00 ∷ 0x00 ∷ []) (pos 2) (pos 3)) (0x03 ∷ 0x00 ∷ 0x00 ∷ [])
     ∷ []
 
 abbrev pub unpadOrder : List Case
@@ -96,7 +120,7 @@ unpadOrder =
     -- above the buffer, and unreadable; below 1, and unreadable; then unreadable
     keeps (unpadded unreadable (pos 3)) (negsuc 0) unreadable
     ∷ keeps (unpadded unreadable (pos 0)) (negsuc 0) unreadable
-    ∷ keeps (unpadded unreadable (pos 2)) (negsuc 3) unreadable
+    ∷ refusesIt (unpadded unreadable (pos 2)) unreadable
     ∷ []
 
 abbrev pub streamsOrder : List Case
@@ -111,7 +135,7 @@ streamsOrder =
     -- below 1, and equal; above the new length, and unreadable; then unreadable, with 255; 256, and unreadable
     ∷ keeps (streamsPadded unreadable (pos 0) (pos 0) (pos 255)) (negsuc 0) unreadable
     ∷ keeps (streamsPadded unreadable (pos 2) (pos 1) (pos 255)) (negsuc 0) unreadable
-    ∷ keeps (streamsPadded (0x03 ∷ 0x00 ∷ 0x00 ∷ []) (pos 2) (pos 3) (pos 255)) (negsuc 3) (0x03 ∷ 0x00 ∷ 0x00 ∷ [])
+    ∷ refusesIt (streamsPadded (0x03 ∷ 0x00 ∷ 0x00 ∷ []) (pos 2) (pos 3) (pos 255)) (0x03 ∷ 0x00 ∷ 0x00 ∷ [])
     ∷ keeps (streamsPadded (0x03 ∷ 0x00 ∷ 0x00 ∷ []) (pos 2) (pos 3) (pos 256)) (negsuc 0) (0x03 ∷ 0x00 ∷ 0x00 ∷ [])
     -- unpad: above the buffer, no stream, a negative number, 256, or below 1, and unreadable; then unreadable, with 255
     ∷ keeps (streamsUnpadded unreadable (pos 3) (pos 1)) (negsuc 0) unreadable
@@ -119,8 +143,10 @@ streamsOrder =
     ∷ keeps (streamsUnpadded unreadable (pos 2) (negsuc 0)) (negsuc 0) unreadable
     ∷ keeps (streamsUnpadded unreadable (pos 2) (pos 256)) (negsuc 0) unreadable
     ∷ keeps (streamsUnpadded unreadable (pos 0) (pos 1)) (negsuc 0) unreadable
-    ∷ keeps (streamsUnpadded unreadable (pos 2) (pos 255)) (negsuc 3) unreadable
+    ∷ refusesIt (streamsUnpadded unreadable (pos 2) (pos 255)) unreadable
     ∷ []
 
 abbrev pub allCases : List Case
-allCases = readingCases ++ (padCases ++ (rebuiltCases ++ (stageCases ++ (lengthOrder ++ (padOrder ++ (unpadOrder ++ streamsOrder))))))
+allCases =
+    readingCases ++
+    (placeCases ++ (streamPlaces ++ (padCases ++ (rebuiltCases ++ (stageCases ++ (lengthOrder ++ (padOrder ++ (unpadOrder ++ streamsOrder))))))))

@@ -3,6 +3,7 @@ use Prim.Native.Nat.{ℕ, _-_}
 use mathlib.Core.List.{List, _++_}
 use lib.IntN.{ℤ}
 use lib.ListN.{length, take, drop}
+use Rattle.opus_defines.specs.Rules.{shifted}
 use Rattle.opus_defines.specs.Outcome.{Effect, refusal, wrote, Outcome, leaves}
 use Rattle.packet_pad.specs.Lengths.{lengthsOf, bounded, byLengths}
 use Rattle.packet_pad.specs.Pad.{padPacket}
@@ -10,9 +11,9 @@ use Rattle.multistream.specs.declared.Passed.{Passed}
 use Rattle.multistream.specs.declared.Passed.the-variants.{Past, Stuck}
 use Rattle.multistream.specs.Streams.{streamsOf, passStreams}
 
--- the bytes in front stay, and what is written stands behind them
+-- the bytes in front stay, and what is written stands behind them; places count them too
 abbrev pub behind : List ℕ → Effect → Effect
-behind front (refusal e) = refusal e
+behind front (refusal e) = refusal (shifted (length front) e)
 behind front (wrote n vs) = wrote n (front ++ vs)
 
 -- the last stream, from a place of p on, is padded as a packet is; where no byte is left for it, -1

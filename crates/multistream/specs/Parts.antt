@@ -3,6 +3,10 @@ use Prim.Native.Nat.{ℕ, _+_, _-_}
 use mathlib.Core.List.{List, []}
 use mathlib.Core.Bool.{Bool, true, false}
 use lib.ListN.{length, take, drop}
+use Rattle.opus_defines.specs.Numbers.{refusalReport}
+use Rattle.opus_defines.specs.Rules.{shifted}
+use Rattle.opus_defines.specs.declared.Answer.{Answer}
+use Rattle.opus_defines.specs.declared.Answer.the-variants.{Number, Refused as Said}
 use Rattle.opus_defines.specs.declared.Verdict.{Verdict}
 use Rattle.opus_defines.specs.declared.Verdict.the-variants.{Accepted, Refused}
 use Rattle.opus_toc.specs.Toc.{upperSix}
@@ -14,12 +18,21 @@ use Rattle.multistream.specs.declared.Passed.{Passed}
 use Rattle.multistream.specs.declared.Passed.the-variants.{Past, Stuck}
 use Rattle.multistream.specs.declared.Places.{Places}
 
+-- the bytes that were passed, or the place of what cannot be read
+abbrev pub reach : Passed → ℕ
+reach (Past n) = n
+reach (Stuck e) = refusalReport e .place
+
+abbrev pub shiftedAnswer : ℕ → Answer → Answer
+shiftedAnswer n (Number k) = Number k
+shiftedAnswer n (Said e) = Said (shifted n e)
+
 -- what is left from a place on, of the first len bytes
 abbrev pub stream : List ℕ → ℕ → ℕ → List ℕ
 stream s from len = take (len - from) (drop from s)
 
 abbrev pub compactBy : Bool → List ℕ → Reading → List ℕ
-compactBy sd s (refused rule) = []
+compactBy sd s (refused rule place) = []
 compactBy sd s (accepted toc ns first taken) = compact sd (upperSix toc) (cut ns (drop first s))
 
 -- the compact packet of the stream at the front of s, and the bytes that the stream takes
@@ -27,11 +40,11 @@ abbrev pub compactOf : Bool → List ℕ → List ℕ
 compactOf sd s = compactBy sd s (read sd s)
 
 abbrev pub takenBy : Reading → ℕ
-takenBy (refused rule) = 0
+takenBy (refused rule place) = 0
 takenBy (accepted toc ns first taken) = taken
 
 abbrev pub isAccepted : Reading → Bool
-isAccepted (refused rule) = false
+isAccepted (refused rule place) = false
 isAccepted (accepted toc ns first taken) = true
 
 abbrev pub nextPlaces : ℕ → ℕ → Bool → List ℕ → Places

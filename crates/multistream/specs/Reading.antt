@@ -21,7 +21,7 @@ andStreams x unreadable = unreadable
 andStreams x (streams xs) = streams (x ∷ xs)
 
 abbrev pub thenStreams : (List ℕ → Streams) → List ℕ → Reading → Streams
-thenStreams next s (refused rule) = unreadable
+thenStreams next s (refused rule place) = unreadable
 thenStreams next s (accepted toc ns first taken) =
     andStreams (record { six = upperSix toc; frames = cut ns (drop first s) }) (next (drop taken s))
 

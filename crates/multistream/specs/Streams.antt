@@ -5,7 +5,7 @@ use mathlib.Core.Bool.{true, cond}
 use lib.Dec.{ltb}
 use lib.IntN.{ℤ, pos, negsuc}
 use lib.ListN.{drop}
-use Rattle.opus_defines.specs.Rules.{ruleRefusal}
+use Rattle.opus_defines.specs.Rules.{ruleRefusal, shifted}
 use Rattle.opus_format.specs.Reading.{Reading, refused, accepted, read}
 use Rattle.multistream.specs.declared.Passed.{Passed}
 use Rattle.multistream.specs.declared.Passed.the-variants.{Past, Stuck}
@@ -17,13 +17,13 @@ streamsOf (pos n) = cond (ltb 255 n) 0 n
 
 -- the bytes of a stream that was read
 abbrev pub passBy : Reading → Passed
-passBy (refused rule) = Stuck (ruleRefusal rule)
+passBy (refused rule place) = Stuck (ruleRefusal rule place)
 passBy (accepted toc ns first taken) = Past taken
 
--- so many bytes more
+-- so many bytes more; the place of a stream that cannot be read is counted from the packet's front
 abbrev pub further : ℕ → Passed → Passed
 further n (Past at) = Past (n + at)
-further n (Stuck e) = Stuck e
+further n (Stuck e) = Stuck (shifted n e)
 
 abbrev pub thenPass : (List ℕ → Passed) → List ℕ → Passed → Passed
 thenPass next s (Past n) = further n (next (drop n s))

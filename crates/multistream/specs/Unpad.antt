@@ -4,7 +4,7 @@ use mathlib.Core.List.{List, [], _++_}
 use mathlib.Core.Bool.{Bool, true, false}
 use lib.IntN.{ℤ}
 use lib.ListN.{take, drop}
-use Rattle.opus_defines.specs.Rules.{ruleRefusal}
+use Rattle.opus_defines.specs.Rules.{ruleRefusal, shifted}
 use Rattle.opus_defines.specs.Outcome.{Effect, refusal, written, Outcome, leaves}
 use Rattle.opus_defines.specs.declared.Refusal.{Refusal}
 use Rattle.opus_toc.specs.Toc.{upperSix}
@@ -19,15 +19,16 @@ pub data Repacked : Type 0 where
   unread : Refusal → Repacked
   repacked : List ℕ → Repacked
 
-abbrev pub ahead : List ℕ → Repacked → Repacked
-ahead q (unread e) = unread e
-ahead q (repacked v) = repacked (q ++ v)
+-- a packet q in front, for a stream of n bytes
+abbrev pub ahead : List ℕ → ℕ → Repacked → Repacked
+ahead q n (unread e) = unread (shifted n e)
+ahead q n (repacked v) = repacked (q ++ v)
 
 -- one stream, and those behind it; s is what is left of the packet
 abbrev pub repackReading : Bool → (List ℕ → Repacked) → List ℕ → Reading → Repacked
-repackReading sd next s (refused rule) = unread (ruleRefusal rule)
+repackReading sd next s (refused rule place) = unread (ruleRefusal rule place)
 repackReading sd next s (accepted toc ns first taken) =
-    ahead (compact sd (upperSix toc) (cut ns (drop first s))) (next (drop taken s))
+    ahead (compact sd (upperSix toc) (cut ns (drop first s))) taken (next (drop taken s))
 
 -- k self-delimited streams and one ordinary one
 abbrev pub repackStreams : ℕ → List ℕ → Repacked

@@ -2,20 +2,21 @@
 // rewritten stream never reaches an unread byte, since none is longer than it was.
 ghost use mathlib.Core.Path.{_≡_};
 ghost use mathlib.Core.Bool.{true};
-ghost use Prim.Native.Nat.{_<_, _≤_};
+ghost use Prim.Native.Nat.{_+_, _<_, _≤_};
 ghost use lib.ListN.{length, take};
 ghost use lib.Seq.{sets};
-ghost use Rattle.opus_defines.specs.Numbers.{numberOf};
+ghost use Rattle.opus_defines.specs.Numbers.{reportOf};
 ghost use Rattle.opus_defines.specs.Outcome.{leaves};
 ghost use Rattle.opus_defines.specs.declared.Verdict.the-variants.{Accepted};
 ghost use Rattle.opus_format.specs.Reading.{read};
-ghost use Rattle.multistream.specs.Streams.{streamsOf, passBy, passStreams};
+ghost use Rattle.multistream.specs.Streams.{streamsOf, passBy, further, passStreams};
 ghost use Rattle.multistream.specs.Pad.{padLast, padStreams, streamsPadded};
 ghost use Rattle.multistream.specs.Unpad.{repackStreams, unpadStreams, streamsUnpadded};
-ghost use Rattle.multistream.specs.Parts.{stream, compactOf, isAccepted, nextPlaces, verdictBy, verdictOf, packedOf};
+ghost use Rattle.multistream.specs.Parts.{reach, shiftedAnswer, stream, compactOf, isAccepted, nextPlaces, verdictBy, verdictOf, packedOf};
 use opus_defines::Answer;
 use opus_defines::Count;
 use opus_defines::Refusal;
+use opus_defines::Report;
 use opus_defines::Verdict;
 use packet_pad::lengths::Lengths;
 use packet_pad::lengths::length_of;
@@ -41,6 +42,17 @@ fn pass_stream(data: &[u8], self_delimited: bool) -> Passed
     Passed::Stuck(e)
 }
 
+// The same counted from so many bytes before it.
+fn further_on(p: Passed, by: usize) -> Passed
+    requires { ⌜ by + reach p < 65536 ⌝ }
+    ensures { λ r. ⌜ r ≡ further by p ⌝ }
+{
+    match p {
+        Passed::Past(n) => Passed::Past(by + n),
+        Passed::Stuck(e) => Passed::Stuck(opus_defines::shift(e, by)),
+    }
+}
+
 // Reads the first k streams, which are self-delimited.
 fn pass_streams(data: &[u8], k: usize) -> Passed
     requires { ⌜ length (now «data») ≤ 65535 ⌝ }
@@ -51,7 +63,7 @@ fn pass_streams(data: &[u8], k: usize) -> Passed
     while i < k {
         let p = pass_stream(&data[at..], true);
         let Passed::Past(taken) = p else {
-            return p;
+            return further_on(p, at);
         };
         at += taken;
         i += 1;
@@ -59,24 +71,36 @@ fn pass_streams(data: &[u8], k: usize) -> Passed
     Passed::Past(at)
 }
 
+// What a call on a part of the buffer answers, with places counted from the buffer's front.
+fn shift_answer(a: Answer, by: usize) -> Answer
+    requires { ⌜ reportOf a .place + by < 65536 ⌝ }
+    ensures { λ r. ⌜ r ≡ shiftedAnswer by a ⌝ }
+{
+    match a {
+        Answer::Number(n) => Answer::Number(n),
+        Answer::Refused(e) => Answer::Refused(opus_defines::shift(e, by)),
+    }
+}
+
 // Pads the last stream, which stands at a place.
 fn pad_last(data: &mut [u8], len: usize, new_len: usize, at: usize) -> Answer
     requires { ⌜ (at ≤ len) × (len < «new_len») × («new_len» ≤ length (now «data»)) × («new_len» ≤ 65535) ⌝ }
-    ensures number { λ r. ⌜ numberOf r
-        ≡ leaves (now («data» .entry)) (padLast (take len (now («data» .entry))) «new_len» (Passed.Past at)) .number ⌝ }
+    ensures report { λ r. ⌜ reportOf r
+        ≡ leaves (now («data» .entry)) (padLast (take len (now («data» .entry))) «new_len» (Passed.Past at)) .report ⌝ }
     ensures bytes { λ _. ⌜ now («data» .exit)
         ≡ leaves (now («data» .entry)) (padLast (take len (now («data» .entry))) «new_len» (Passed.Past at)) .bytes ⌝ }
 {
     if at == len {
         return Answer::Refused(Refusal::BadArg);
     }
-    packet_pad::pad_packet(&mut data[at..], len - at, new_len - at)
+    let a = packet_pad::pad_packet(&mut data[at..], len - at, new_len - at);
+    shift_answer(a, at)
 }
 
 // The packet in the first `len` bytes, padded to more in its last stream.
 fn pad_streams(data: &mut [u8], len: usize, new_len: usize, streams: usize) -> Answer
     requires { ⌜ (len < «new_len») × («new_len» ≤ length (now «data»)) × («new_len» ≤ 65535) × (1 ≤ streams) ⌝ }
-    ensures number { λ r. ⌜ numberOf r ≡ leaves (now («data» .entry)) (padStreams streams (take len (now («data» .entry))) «new_len») .number ⌝ }
+    ensures report { λ r. ⌜ reportOf r ≡ leaves (now («data» .entry)) (padStreams streams (take len (now («data» .entry))) «new_len») .report ⌝ }
     ensures bytes { λ _. ⌜ now («data» .exit)
         ≡ leaves (now («data» .entry)) (padStreams streams (take len (now («data» .entry))) «new_len») .bytes ⌝ }
 {
@@ -101,7 +125,7 @@ fn streams_of(nb_streams: i32) -> usize
 }
 
 fn pad_answer(data: &mut [u8], len: i32, new_len: i32, nb_streams: i32) -> Answer
-    ensures number { λ r. ⌜ numberOf r ≡ streamsPadded (now («data» .entry)) len «new_len» «nb_streams» .number ⌝ }
+    ensures report { λ r. ⌜ reportOf r ≡ streamsPadded (now («data» .entry)) len «new_len» «nb_streams» .report ⌝ }
     ensures bytes { λ _. ⌜ now («data» .exit) ≡ streamsPadded (now («data» .entry)) len «new_len» «nb_streams» .bytes ⌝ }
 {
     let streams = streams_of(nb_streams);
@@ -117,11 +141,16 @@ fn pad_answer(data: &mut [u8], len: i32, new_len: i32, nb_streams: i32) -> Answe
 }
 
 // Pads the multistream packet in the first `len` bytes of the buffer to `new_len`, in its last stream, and answers 0.
-pub fn opus_multistream_packet_pad(data: &mut [u8], len: i32, new_len: i32, nb_streams: i32) -> i32
-    ensures number { λ r. ⌜ r ≡ streamsPadded (now («data» .entry)) len «new_len» «nb_streams» .number ⌝ }
+pub fn opus_multistream_packet_pad(
+    data: &mut [u8],
+    len: i32,
+    new_len: i32,
+    nb_streams: i32,
+) -> Report
+    ensures report { λ r. ⌜ r ≡ streamsPadded (now («data» .entry)) len «new_len» «nb_streams» .report ⌝ }
     ensures bytes { λ _. ⌜ now («data» .exit) ≡ streamsPadded (now («data» .entry)) len «new_len» «nb_streams» .bytes ⌝ }
 {
-    opus_defines::number_of(pad_answer(data, len, new_len, nb_streams))
+    opus_defines::report_of(pad_answer(data, len, new_len, nb_streams))
 }
 
 // Reads all streams, k self-delimited ones and the last.
@@ -133,7 +162,8 @@ fn pass_all(data: &[u8], k: usize) -> Passed
     let Passed::Past(at) = p else {
         return p;
     };
-    pass_stream(&data[at..], false)
+    let last = pass_stream(&data[at..], false);
+    further_on(last, at)
 }
 
 // Where the next compact packet goes, and where the next stream to read is.
@@ -191,7 +221,7 @@ fn repack_streams(data: &mut [u8], len: usize, k: usize) -> usize
 // bytes than the stream (`rebuilds`).
 fn unpad_streams(data: &mut [u8], len: usize, streams: usize) -> Answer
     requires { ⌜ (len ≤ length (now «data»)) × (len ≤ 65535) × (1 ≤ streams) ⌝ }
-    ensures number { λ r. ⌜ numberOf r ≡ leaves (now («data» .entry)) (unpadStreams streams (take len (now («data» .entry)))) .number ⌝ }
+    ensures report { λ r. ⌜ reportOf r ≡ leaves (now («data» .entry)) (unpadStreams streams (take len (now («data» .entry)))) .report ⌝ }
     ensures bytes { λ _. ⌜ now («data» .exit) ≡ leaves (now («data» .entry)) (unpadStreams streams (take len (now («data» .entry)))) .bytes ⌝ }
 {
     let p = pass_all(&data[..len], streams - 1);
@@ -205,7 +235,7 @@ fn unpad_streams(data: &mut [u8], len: usize, streams: usize) -> Answer
 }
 
 fn unpad_answer(data: &mut [u8], len: i32, nb_streams: i32) -> Answer
-    ensures number { λ r. ⌜ numberOf r ≡ streamsUnpadded (now («data» .entry)) len «nb_streams» .number ⌝ }
+    ensures report { λ r. ⌜ reportOf r ≡ streamsUnpadded (now («data» .entry)) len «nb_streams» .report ⌝ }
     ensures bytes { λ _. ⌜ now («data» .exit) ≡ streamsUnpadded (now («data» .entry)) len «nb_streams» .bytes ⌝ }
 {
     let streams = streams_of(nb_streams);
@@ -220,9 +250,9 @@ fn unpad_answer(data: &mut [u8], len: i32, nb_streams: i32) -> Answer
 }
 
 // Brings every stream of the multistream packet in the first `len` bytes into compact form, and answers the bytes of all.
-pub fn opus_multistream_packet_unpad(data: &mut [u8], len: i32, nb_streams: i32) -> i32
-    ensures number { λ r. ⌜ r ≡ streamsUnpadded (now («data» .entry)) len «nb_streams» .number ⌝ }
+pub fn opus_multistream_packet_unpad(data: &mut [u8], len: i32, nb_streams: i32) -> Report
+    ensures report { λ r. ⌜ r ≡ streamsUnpadded (now («data» .entry)) len «nb_streams» .report ⌝ }
     ensures bytes { λ _. ⌜ now («data» .exit) ≡ streamsUnpadded (now («data» .entry)) len «nb_streams» .bytes ⌝ }
 {
-    opus_defines::number_of(unpad_answer(data, len, nb_streams))
+    opus_defines::report_of(unpad_answer(data, len, nb_streams))
 }

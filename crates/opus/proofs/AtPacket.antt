@@ -8,7 +8,7 @@
 use Prim.Native.Nat.{ℕ, zero, suc, _+_, _*_, _-_, _/_, _%_, _≤_, _<_}
 use native.Mathlib.Omega.{arith}
 use native.Mathlib.Nat.{mul-le-mul-left}
-use mathlib.Core.Path.{_≡_, refl, _∙_}
+use mathlib.Core.Path.{_≡_, refl, sym, ap, _∙_}
 use mathlib.Core.List.{List, [], _∷_}
 use mathlib.Core.Bool.{Bool, true, false, cond}
 use lib.Dec.{ltb, leb, eqb}
@@ -27,7 +27,7 @@ use Rattle.opus_toc.proofs.Samples.{lasts-at}
 use Rattle.opus_format.specs.Frames.{total}
 use Rattle.opus_defines.specs.declared.Rule.{Rule}
 use Rattle.opus_defines.specs.declared.Rule.the-variants.{R1, R2, R3, R4, R5, R6, R7}
-use Rattle.opus_format.specs.Reading.{Front, broken, front, readFields, behindFields, equal, readPadding, frames3, sizeRule, lasts}
+use Rattle.opus_format.specs.Reading.{Front, broken, front, unequal, equal, readPadding, frames3, sizeRule, lasts, pointed}
 use Rattle.opus_format.specs.Reading.{Reading, refused, accept, behindPadding, read3, readCode, read}
 use Rattle.opus.specs.Answers.{noPacket, packetOf, parsed, answerOf}
 use Rattle.opus_parts.specs.Parts.{framesAt, framesLent, FramesRead, endOf, paddingAt}
@@ -45,22 +45,30 @@ module _ (toc count at pad : ℕ) (f : FramesAt) where
       → record { verdict = Accepted; toc = toc; count = count; first = at + first; taken = at + first + sum + pad } ≡ headAt toc count at pad f
   head-found first sum e = rw e
 
-  pub head-broken : (r : Rule) → f ≡ Broken r → noHead (ruleRefusal r) ≡ headAt toc count at pad f
-  head-broken r e = rw e
+  pub head-broken : (r : Rule) (place : ℕ) → f ≡ Broken r place → noHead (ruleRefusal r (pointed r (at + place))) ≡ headAt toc count at pad f
+  head-broken r place e = rw e
 
 pub end-found : (f : FramesAt) (first sum : ℕ) → f ≡ At first sum → endOf f ≡ first + sum
 end-found f first sum e = rw e
 
+pub end-broken : (f : FramesAt) (r : Rule) (place : ℕ) → f ≡ Broken r place → endOf f ≡ place
+end-broken f r place e = rw e
+
+-- the place of what breaks in the n bytes behind `at` bytes, where m bytes are these and the padding; the field concerned is within them
+pub head-place : (m n at pad k : ℕ) → k ≤ n → m ≡ at + n + pad → m - pad - k ≡ at + (n - k)
+head-place m n at pad k h e = omega arith
+
 -- m bytes are `at` bytes, n bytes in which the frames were read, and the padding
 packet-of : (m n toc count at pad : ℕ) (r : Front) (l : List ℕ) → Within n count r → framesLent r l → m ≡ at + n + pad
     → answerOf (headAt toc count at pad (framesAt n r)) l ≡ packetOf (accept m toc pad r)
-packet-of m n toc count at pad (broken r) l w g e = refl
+packet-of m n toc count at pad (broken r t) l w g e =
+    ap (λ place. noPacket (ruleRefusal r (pointed r place))) (sym (head-place m n at pad (length t) w e))
 packet-of m n toc count at pad (front ns t) l w g e =
     let first : m - pad - length t ≡ at + (n - length t) = omega arith in
     rw (first, g, w .2)
 
 packet-fits : (m n count at pad : ℕ) (r : Front) → Within n count r → m ≡ at + n + pad → at + endOf (framesAt n r) + pad ≤ m
-packet-fits m n count at pad (broken r) w e = omega arith
+packet-fits m n count at pad (broken r t) w e = omega arith
 packet-fits m n count at pad (front ns t) w e = omega arith
 
 -- the same of an answer f that is those frames, with their lengths in the array
@@ -82,7 +90,7 @@ rule-unequal zero n = absurd (n refl)
 rule-unequal (suc v) n = refl
 
 unfit-refused : (sd : Bool) (k m toc v count : ℕ) (f : Field) → paddingAt k f ≡ Unfit
-    → noPacket (ruleRefusal (sizeRule v)) ≡ packetOf (behindPadding sd m toc v count f)
+    → noPacket (ruleRefusal (sizeRule v) 2) ≡ packetOf (behindPadding sd m toc v count f)
 unfit-refused sd k m toc v count noField e = refl
 unfit-refused sd k m toc v count (field pad t) e = by-test (ltb (length t) pad) (λ b. rw b) (λ b. never (let q = rw b at e in cc))
 
@@ -99,7 +107,7 @@ padding d = readPadding (getD d 1 0 / 64 % 2) (part d 2 (length d))
 
 module _ (sd : Bool) (d : List ℕ) (count : ℕ) where
   pub body-unfit : paddingAt (length (part d 2 (length d))) (padding d) ≡ Unfit
-      → noPacket (ruleRefusal (sizeRule (getD d 1 0 / 128 % 2))) ≡ packetOf (body sd d count)
+      → noPacket (ruleRefusal (sizeRule (getD d 1 0 / 128 % 2)) 2) ≡ packetOf (body sd d count)
   body-unfit e =
       unfit-refused sd (length (drop 2 d)) (length d) (getD d 0 0) (getD d 1 0 / 128 % 2) count (readPadding (getD d 1 0 / 64 % 2) (drop 2 d))
       (rw (part-to-end d 2) at e)
@@ -152,7 +160,7 @@ unfolding samples duration
 some-samples c h = leb-true 120 (samples 48000 c) (every-at 32 (λ c. leb 120 (samples 48000 c)) refl c h)
 
 module _ (toc count n : ℕ) (b : toc < 256) (e : n ≡ samples 48000 (configuration toc)) where
-  lasts-is : (count ≡ 0 → ⊥) → leb (count * n) 5760 ≡ lasts (upperSix toc) count
+  pub lasts-is : (count ≡ 0 → ⊥) → leb (count * n) 5760 ≡ lasts (upperSix toc) count
   lasts-is z = rw (e, lt-ltb 0 count (omega arith)) (lasts-at 48000 refl count (configuration toc) (omega arith))
 
   pub most-frames : leb (count * n) 5760 ≡ true → count ≤ 48
@@ -163,25 +171,25 @@ module _ (toc count n : ℕ) (b : toc < 256) (e : n ≡ samples 48000 (configura
 module _ (sd : Bool) where
   -- a packet that is long enough for its count byte
   three-is : (d : List ℕ) → 2 ≤ length d
-      → read3 sd (length d) (getD d 0 0) (drop 1 d) ≡ cond (lasts (upperSix (getD d 0 0)) (getD d 1 0 % 64)) (body sd d (getD d 1 0 % 64)) (refused R5)
+      → read3 sd (length d) (getD d 0 0) (drop 1 d) ≡ cond (lasts (upperSix (getD d 0 0)) (getD d 1 0 % 64)) (body sd d (getD d 1 0 % 64)) (refused R5 1)
   three-is [] h = absurd (omega arith)
   three-is (toc ∷ []) h = absurd (omega arith)
   three-is (toc ∷ c ∷ s) h = refl
 
-  pub three-short : (d : List ℕ) → length d < 2 → noPacket (ruleRefusal R5) ≡ packetOf (read3 sd (length d) (getD d 0 0) (drop 1 d))
+  pub three-short : (d : List ℕ) → length d < 2 → noPacket (ruleRefusal R5 1) ≡ packetOf (read3 sd (length d) (getD d 0 0) (drop 1 d))
   three-short [] h = refl
   three-short (toc ∷ []) h = refl
   three-short (toc ∷ c ∷ s) h = absurd (omega arith)
 
   module _ (d : List ℕ) (h : 2 ≤ length d) where
-    pub three-none : getD d 1 0 % 64 ≡ 0 → noPacket (ruleRefusal R5) ≡ packetOf (read3 sd (length d) (getD d 0 0) (drop 1 d))
+    pub three-none : getD d 1 0 % 64 ≡ 0 → noPacket (ruleRefusal R5 1) ≡ packetOf (read3 sd (length d) (getD d 0 0) (drop 1 d))
     three-none z = rw (three-is d h, z)
 
     module _ (z : getD d 1 0 % 64 ≡ 0 → ⊥) (n : ℕ) (b : getD d 0 0 < 256) (e : n ≡ samples 48000 (configuration (getD d 0 0))) where
       lasting : leb (getD d 1 0 % 64 * n) 5760 ≡ lasts (upperSix (getD d 0 0)) (getD d 1 0 % 64)
       lasting = lasts-is (getD d 0 0) (getD d 1 0 % 64) n b e z
 
-      pub three-long : leb (getD d 1 0 % 64 * n) 5760 ≡ false → noPacket (ruleRefusal R5) ≡ packetOf (read3 sd (length d) (getD d 0 0) (drop 1 d))
+      pub three-long : leb (getD d 1 0 % 64 * n) 5760 ≡ false → noPacket (ruleRefusal R5 1) ≡ packetOf (read3 sd (length d) (getD d 0 0) (drop 1 d))
       three-long t = rw (three-is d h, ← lasting, t)
 
       pub three-read : leb (getD d 1 0 % 64 * n) 5760 ≡ true → (x : Packet) → x ≡ packetOf (body sd d (getD d 1 0 % 64))
@@ -222,7 +230,7 @@ third sd (suc (suc (suc c))) m toc s n₀ n₁ n₂ = refl
 
 -- the two kinds of frames behind a TOC byte
 abbrev unequalIn : Bool → Rule → ℕ → List ℕ → Front
-unequalIn sd r k s = behindFields sd r (readFields k s)
+unequalIn sd r k s = unequal sd r k s
 
 abbrev equalIn : Bool → List ℕ → Front
 equalIn sd s = equal sd R3 2 s
@@ -262,7 +270,7 @@ module _ (sd : Bool) where
   unfolding parsed
   parse-long d h = rw (lt-ltb 65535 (length d) h)
 
-  pub parse-empty : (d : List ℕ) → length d ≡ 0 → noPacket (ruleRefusal R1) ≡ parsed sd d
+  pub parse-empty : (d : List ℕ) → length d ≡ 0 → noPacket (ruleRefusal R1 0) ≡ parsed sd d
   unfolding parsed read
   parse-empty [] e = refl
   parse-empty (a ∷ d) e = absurd (omega arith)

@@ -19,7 +19,8 @@ use Rattle.opus_size.proofs.At.{Found}
 use Rattle.opus_toc.specs.Toc.{code}
 use Rattle.opus_defines.specs.declared.Rule.{Rule}
 use Rattle.opus_defines.specs.declared.Rule.the-variants.{R1, R2, R3, R4}
-use Rattle.opus_format.specs.Reading.{unequal, readFields, behindFields, equal, Reading, refused, accepted, accept, read}
+use Rattle.opus_format.specs.Frames.{total}
+use Rattle.opus_format.specs.Reading.{unequal, equal, Reading, refused, accepted, accept, read}
 use Rattle.opus_format.proofs.Sound.{read-spelled}
 use Rattle.opus_format.proofs.Facts.{Facts, facts}
 use Rattle.opus.specs.Answers.{shortOf, shortAt}
@@ -36,65 +37,67 @@ module _ (d : List ℕ) (h : 1 ≤ length d) where
 
   -- ---- code 0
   module _ (e : code (getD d 0 0) ≡ 0) where
-    one-is : read false d ≡ accept (length d) (getD d 0 0) 0 (unequal false R2 [] (drop 1 d))
+    one-is : read false d ≡ accept (length d) (getD d 0 0) 0 (unequal false R2 0 (drop 1 d))
     one-is = rw (by-code false d h, e)
 
-    no-less : ltb (length d - 1) 0 ≡ false
-    no-less = le-ltb (length d - 1) 0 (omega arith)
+    no-less : ltb (length d - 1) (total []) ≡ false
+    no-less = le-ltb (length d - 1) (total []) (omega arith)
 
-    pub one-long : mostBytes < length d - 1 → Broken R2 ≡ shortOf (read false d)
-    one-long m = rw (one-is, rest, no-less, sub-zero, lt-ltb mostBytes (length d - 1) m)
+    pub one-long : mostBytes < length d - 1 → Broken R2 1 ≡ shortOf (read false d)
+    one-long m = rw (one-is, rest, no-less, rest, sub-zero, lt-ltb mostBytes (length d - 1) m, place 1 h)
 
     pub one-fits : length d - 1 ≤ mostBytes → One (length d - 1) 1 ≡ shortOf (read false d)
-    one-fits m = rw (one-is, rest, no-less, sub-zero, le-ltb mostBytes (length d - 1) m, place 1 h)
+    one-fits m = rw (one-is, rest, no-less, rest, sub-zero, le-ltb mostBytes (length d - 1) m, place 1 h)
 
   -- ---- code 1
   module _ (e : code (getD d 0 0) ≡ 1) where
     equal-is : read false d ≡ accept (length d) (getD d 0 0) 0 (equal false R3 2 (drop 1 d))
     equal-is = rw (by-code false d h, e)
 
-    pub equal-odd : ((length d - 1) % 2 ≡ 0 → ⊥) → Broken R3 ≡ shortOf (read false d)
+    pub equal-odd : ((length d - 1) % 2 ≡ 0 → ⊥) → Broken R3 0 ≡ shortOf (read false d)
     equal-odd n = rw (equal-is, rest, ne-eqb ((length d - 1) % 2) 0 n)
 
     module _ (z : (length d - 1) % 2 ≡ 0) where
       even : eqb ((length d - 1) % 2) 0 ≡ true
       even = eq-eqb ((length d - 1) % 2) 0 z
 
-      pub equal-long : mostBytes < (length d - 1) / 2 → Broken R2 ≡ shortOf (read false d)
-      equal-long m = rw (equal-is, rest, even, lt-ltb mostBytes ((length d - 1) / 2) m)
+      pub equal-long : mostBytes < (length d - 1) / 2 → Broken R2 1 ≡ shortOf (read false d)
+      equal-long m = rw (equal-is, rest, even, lt-ltb mostBytes ((length d - 1) / 2) m, place 1 h)
 
       pub equal-fits : (length d - 1) / 2 ≤ mostBytes → Two ((length d - 1) / 2) ((length d - 1) / 2) 1 ≡ shortOf (read false d)
       equal-fits m = rw (equal-is, rest, even, le-ltb mostBytes ((length d - 1) / 2) m, place 1 h)
 
   -- ---- code 2, whose first frame has n bytes, and a length field that ends at `first`
   module _ (e : code (getD d 0 0) ≡ 2) where
-    unequal-is : read false d ≡ accept (length d) (getD d 0 0) 0 (behindFields false R4 (readFields 1 (drop 1 d)))
+    unequal-is : read false d ≡ accept (length d) (getD d 0 0) 0 (unequal false R4 1 (drop 1 d))
     unequal-is = rw (by-code false d h, e)
 
-    pub unequal-cut : readField (drop 1 d) ≡ noField → Broken R4 ≡ shortOf (read false d)
-    unequal-cut r = rw (unequal-is, r)
+    pub unequal-cut : readField (drop 1 d) ≡ noField → Broken R4 1 ≡ shortOf (read false d)
+    unequal-cut r = rw (unequal-is, r, place 1 h)
 
     module _ (n first one : ℕ) (f : Found d 1 n first) (q : one ≡ n) where
       left : length (drop first d) ≡ length d - first
       left = length-drop first d
 
-      pub unequal-over : length d - first < one → Broken R4 ≡ shortOf (read false d)
-      unequal-over m = rw (unequal-is, f .means, left, add-zero, lt-ltb (length d - first) n (omega arith))
+      pub unequal-over : length d - first < one → Broken R4 1 ≡ shortOf (read false d)
+      unequal-over m = rw (unequal-is, f .means, left, lt-ltb (length d - first) n (omega arith), place 1 h)
 
       module _ (k : one ≤ length d - first) where
         enough : ltb (length d - first) n ≡ false
         enough = le-ltb (length d - first) n (omega arith)
 
-        pub unequal-long : mostBytes < length d - first - one → Broken R2 ≡ shortOf (read false d)
-        unequal-long m = rw (unequal-is, f .means, left, add-zero, enough, lt-ltb mostBytes (length d - first - n) (omega arith))
+        pub unequal-long : mostBytes < length d - first - one → Broken R2 first ≡ shortOf (read false d)
+        unequal-long m =
+            let over : ltb mostBytes (length d - first - n) ≡ true = lt-ltb mostBytes (length d - first - n) (omega arith) in
+            rw (unequal-is, f .means, left, enough, left, add-zero, enough, left, add-zero, over, place first (f .within))
 
         pub unequal-fits : length d - first - one ≤ mostBytes → Two n (length d - first - one) first ≡ shortOf (read false d)
         unequal-fits m =
             let small : ltb mostBytes (length d - first - n) ≡ false = le-ltb mostBytes (length d - first - n) (omega arith) in
-            rw (q, unequal-is, f .means, left, add-zero, enough, small, place first (f .within))
+            rw (q, unequal-is, f .means, left, enough, left, add-zero, enough, left, add-zero, small, place first (f .within))
 
 -- ---- what `short_at` answers
-pub short-empty : (d : List ℕ) → length d ≡ 0 → Broken R1 ≡ shortAt d
+pub short-empty : (d : List ℕ) → length d ≡ 0 → Broken R1 0 ≡ shortAt d
 unfolding shortAt read
 short-empty [] e = refl
 short-empty (a ∷ d) e = absurd (omega arith)
@@ -117,7 +120,7 @@ pub record ShortRead (p ns : List ℕ) (first : ℕ) : Type 0 where
 data Answered (p : List ℕ) : Short → Type 0 where
   one : (n first : ℕ) → ShortRead p (n ∷ []) first → Answered p (One n first)
   two : (m n first : ℕ) → ShortRead p (m ∷ n ∷ []) first → Answered p (Two m n first)
-  none : (rule : Rule) → read false p ≡ refused rule → Answered p (Broken rule)
+  none : (rule : Rule) (place : ℕ) → read false p ≡ refused rule place → Answered p (Broken rule place)
   other : Answered p Counted
 
 answered : (p : List ℕ) → Bytes p → Answered p (shortAt p)
@@ -130,7 +133,7 @@ answered p bytes = by-test (eqb (code (getD p 0 0)) 3) (λ t. rw t other) (λ t.
         record { taken = taken; means = y; known = facts false p (getD p 0 0) ns first taken bytes y }
 
     go : (x : Reading) → read false p ≡ x → Answered p (shortOf x)
-    go (refused rule) q = none rule q
+    go (refused rule place) q = none rule place q
     go (accepted toc [] first taken) q = other
     go (accepted toc (n ∷ []) first taken) q = one n first (found toc (n ∷ []) first taken q)
     go (accepted toc (m ∷ n ∷ []) first taken) q = two m n first (found toc (m ∷ n ∷ []) first taken q)
@@ -152,8 +155,8 @@ module _ (p : List ℕ) (bytes : Bytes p) (r : Short) (e : r ≡ shortAt p) wher
       go : Answered p (Two m n first) → ShortRead p (m ∷ n ∷ []) first
       go (two m n first y) = y
 
-  pub none-read : (rule : Rule) → r ≡ Broken rule → read false p ≡ refused rule
-  none-read rule q = go (was q)
+  pub none-read : (rule : Rule) (place : ℕ) → r ≡ Broken rule place → read false p ≡ refused rule place
+  none-read rule place q = go (was q)
     where
-      go : Answered p (Broken rule) → read false p ≡ refused rule
-      go (none rule y) = y
+      go : Answered p (Broken rule place) → read false p ≡ refused rule place
+      go (none rule place y) = y

@@ -33,7 +33,7 @@ lent-accepted sd p h l e v =
     ap (λ (ns : List ℕ). packetWith h ns) (sym k) ∙ e
 
 none-of : (r : Reading) (c : Refusal) → packetOf r .verdict ≡ Refused c → noPacket c ≡ packetOf r
-none-of (refused rule) c v = let same : ruleRefusal rule ≡ c = cc in rw same
+none-of (refused rule place) c v = let same : ruleRefusal rule place ≡ c = cc in rw same
 none-of (accepted toc ns first taken) c v = never (cc)
 
 none-parsed : (sd : Bool) (p : List ℕ) (c : Refusal) → parsed sd p .verdict ≡ Refused c → noPacket c ≡ parsed sd p

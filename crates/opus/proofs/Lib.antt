@@ -1,4 +1,5 @@
 pub mod Parsed
+pub mod Naming
 pub mod Promises
 pub mod AtPacket
 pub mod AtShort

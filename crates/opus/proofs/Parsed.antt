@@ -43,14 +43,15 @@ module _ (sd : Bool) (p : List ℕ) where
         (λ t. go (ltb-false 65535 (length p) t) (rw t at e) (read sd p) refl)
       where
         go : length p ≤ 65535 → r ≡ packetOf (read sd p) → (x : Reading) → read sd p ≡ x → Read sd p r
-        go h f (refused rule) q = never (let x = rw q at f in cc)
+        go h f (refused rule place) q = never (let x = rw q at f in cc)
         go h f (accepted toc ns first taken) q = rw (rw q at f) (read-of toc ns first taken h q)
 
     pub parsed-refused : (c : Refusal) → r .verdict ≡ Refused c → length p ≤ 65535
-        → (rule : Rule) × (c ≡ ruleRefusal rule) × (read sd p ≡ refused rule)
+        → (rule : Rule) × (place : ℕ) × (c ≡ ruleRefusal rule place) × (read sd p ≡ refused rule place)
     unfolding parsed
     parsed-refused c v h = go (rw (le-ltb 65535 (length p) h) at e) (read sd p) refl
       where
-        go : r ≡ packetOf (read sd p) → (x : Reading) → read sd p ≡ x → (rule : Rule) × (c ≡ ruleRefusal rule) × (read sd p ≡ refused rule)
-        go f (refused rule) q = (rule, let x = rw q at f in cc, q)
+        go : r ≡ packetOf (read sd p) → (x : Reading) → read sd p ≡ x
+            → (rule : Rule) × (place : ℕ) × (c ≡ ruleRefusal rule place) × (read sd p ≡ refused rule place)
+        go f (refused rule place) q = (rule, place, let x = rw q at f in cc, q)
         go f (accepted toc ns first taken) q = never (let x = rw q at f in cc)

@@ -16,10 +16,16 @@ use Rattle.opus_toc.specs.Toc.{upperSix, time}
 use Rattle.opus_format.specs.Frames.{cut}
 use Rattle.opus_format.specs.Format.{Spells, Behind}
 use Rattle.opus_format.specs.Reading.{refused, read}
+use Rattle.opus_defines.specs.Numbers.{verdictReport}
+use Rattle.opus_format.specs.Broken.{Breaks}
+use Rattle.opus_format.proofs.Broken.{refused-breaks, refused-stands-not}
+use Rattle.opus_format.proofs.Within.{refused-within}
 use Rattle.opus.specs.Answers.{parsed, packetNumber}
+use Rattle.opus.specs.Named.{Named}
 use Rattle.opus_format.proofs.Complete.{spelled-read}
 use Rattle.opus_format.proofs.Facts.{facts}
 use Rattle.opus_format.proofs.Sound.{read-spelled}
+use Rattle.opus.proofs.Naming.{reading-named}
 use Rattle.opus.proofs.Parsed.{lengthsOf, parsed-accepted}
 
 -- a packet of RFC 6716 stands at the front of p, and is all of it in the ordinary form
@@ -69,7 +75,20 @@ pub too-long-number : (sd : Bool) (p : List ℕ) → 65535 < length p → packet
 unfolding parsed
 too-long-number sd p h = rw (lt-ltb 65535 (length p) h)
 
-pub unreadable-number : (sd : Bool) (p : List ℕ) (rule : Rule) → length p ≤ 65535 → read sd p ≡ refused rule
+pub unreadable-number : (sd : Bool) (p : List ℕ) (rule : Rule) (place : ℕ) → length p ≤ 65535 → read sd p ≡ refused rule place
     → packetNumber (parsed sd p) ≡ negsuc 3
 unfolding parsed
-unreadable-number sd p rule h r = rw (le-ltb 65535 (length p) h, r) (rule-number rule)
+unreadable-number sd p rule place h r = rw (le-ltb 65535 (length p) h, r) (rule-number rule place)
+
+-- M-100. Where the reader refuses a packet, the rule that it names is broken at the place that it names, which is within the packet or its end,
+pub names-a-broken-rule : (sd : Bool) (p : List ℕ) → Bytes p → (rule : Rule) (place : ℕ) → read sd p ≡ refused rule place
+    → (Breaks sd p rule place) × (place ≤ length p)
+names-a-broken-rule sd p bytes rule place r = (refused-breaks sd p bytes rule place r, refused-within sd p rule place r)
+
+-- and no packet of RFC 6716 stands there;
+pub unreadable-stands-not : (sd : Bool) (p : List ℕ) (rule : Rule) (place : ℕ) → read sd p ≡ refused rule place → Stands sd p → ⊥
+unreadable-stands-not sd p rule place r w = refused-stands-not sd p rule place r (w .six) (w .whole) (w .rest) (w .frames) (w .packet) (w .behind) (w .front)
+
+-- in every other answer both are 0.
+pub reader-names : (sd : Bool) (p : List ℕ) → let a = parsed sd p in Named p (verdictReport (a .count) (a .verdict))
+reader-names = reading-named

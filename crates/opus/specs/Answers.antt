@@ -25,7 +25,7 @@ abbrev pub noPacket : Refusal → Packet
 noPacket e = record { verdict = Refused e; toc = 0; count = 0; lengths = padded48 []; first = 0; taken = 0 }
 
 abbrev pub packetOf : Reading → Packet
-packetOf (refused rule) = noPacket (ruleRefusal rule)
+packetOf (refused rule place) = noPacket (ruleRefusal rule place)
 packetOf (accepted toc ns first taken) =
     record { verdict = Accepted; toc = toc; count = length ns; lengths = padded48 ns; first = first; taken = taken }
 
@@ -35,7 +35,7 @@ parsed sd p = cond (ltb mostPacket (length p)) (noPacket BadArg) (packetOf (read
 
 -- one frame or two
 abbrev pub shortOf : Reading → Short
-shortOf (refused rule) = Broken rule
+shortOf (refused rule place) = Broken rule place
 shortOf (accepted toc [] first taken) = Counted
 shortOf (accepted toc (n ∷ []) first taken) = One n first
 shortOf (accepted toc (m ∷ n ∷ []) first taken) = Two m n first

@@ -1,3 +1,4 @@
 pub mod Answers
 pub mod Heads
+pub mod Named
 pub mod Cases

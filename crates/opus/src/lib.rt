@@ -3,12 +3,12 @@
 ghost use mathlib.Core.Path.{_≡_};
 ghost use mathlib.Core.Bool.{false};
 ghost use mathlib.Core.List.{[]};
-ghost use Prim.Native.Nat.{_+_, _/_, _%_, _^_, _<_, _≤_};
+ghost use Prim.Native.Nat.{_+_, _/_, _%_, _<_, _≤_};
 ghost use lib.ListN.{length, getD, drop};
 ghost use Rattle.opus_format.specs.Frames.{padded48};
 ghost use Rattle.opus_toc.specs.Toc.{code};
 ghost use Rattle.opus_defines.specs.Rules.{ruleRefusal};
-ghost use Rattle.opus_format.specs.Reading.{sizeRule, readPadding, behindPadding, read3, read};
+ghost use Rattle.opus_format.specs.Reading.{sizeRule, pointed, readPadding, behindPadding, read3, read};
 ghost use Rattle.opus.specs.Answers.{noPacket, packetOf, parsed, answerOf, shortOf, shortAt};
 ghost use Rattle.opus_parts.specs.Parts.{endOf};
 ghost use Rattle.opus.specs.Heads.{noHead, headAt};
@@ -72,11 +72,28 @@ fn no_head(e: Refusal) -> PacketHead
     }
 }
 
-// A packet that breaks a rule.
-fn broken_head(rule: Rule) -> PacketHead
-    ensures { λ r. ⌜ r ≡ noHead (ruleRefusal rule) ⌝ }
+// A packet that breaks a rule at a place.
+fn broken_head(rule: Rule, place: usize) -> PacketHead
+    requires { ⌜ place < 65536 ⌝ }
+    ensures { λ r. ⌜ r ≡ noHead (ruleRefusal rule place) ⌝ }
 {
-    no_head(opus_defines::rule_refusal(rule))
+    no_head(opus_defines::rule_refusal(rule, place))
+}
+
+// The place that a broken rule names: rule 3 points at the TOC byte.
+fn pointed_place(rule: Rule, place: usize) -> usize
+    ensures { λ r. ⌜ (r ≡ pointed rule place) × (r ≤ place) ⌝ }
+{
+    match rule {
+        Rule::R1 => place,
+        Rule::R2 => place,
+        Rule::R3 => 0,
+        Rule::R4 => place,
+        Rule::R5 => place,
+        Rule::R6 => place,
+        Rule::R7 => place,
+        Rule::R8 => place,
+    }
 }
 
 // R6 for equal lengths, R7 for unequal ones, by the count byte's flag.
@@ -91,11 +108,11 @@ fn size_rule(count_byte: u8) -> Rule
 
 // The packet of frames that were read at a place.
 fn packet_at(toc: u8, count: usize, at: usize, pad: usize, f: FramesAt) -> PacketHead
-    requires { ⌜ at + endOf f + pad < 2 ^ 32 ⌝ }
+    requires { ⌜ at + endOf f + pad ≤ 65535 ⌝ }
     ensures { λ r. ⌜ r ≡ headAt toc count at pad f ⌝ }
 {
     match f {
-        FramesAt::Broken(rule) => broken_head(rule),
+        FramesAt::Broken(rule, place) => broken_head(rule, pointed_place(rule, at + place)),
         FramesAt::At(offset, total) => {
             let first = at + offset;
             PacketHead {
@@ -111,7 +128,7 @@ fn packet_at(toc: u8, count: usize, at: usize, pad: usize, f: FramesAt) -> Packe
 
 // The packet of frames that were read right behind the TOC byte.
 fn behind_toc(toc: u8, count: usize, f: FramesAt) -> PacketHead
-    requires { ⌜ 1 + endOf f < 2 ^ 32 ⌝ }
+    requires { ⌜ 1 + endOf f ≤ 65535 ⌝ }
     ensures { λ r. ⌜ r ≡ headAt toc count 1 0 f ⌝ }
 {
     packet_at(toc, count, 1, 0, f)
@@ -129,7 +146,7 @@ fn read_body(data: &[u8], count: usize, self_delimited: bool, lengths: &mut [u16
     let tail = &data[2..];
     let padding = read_padding(tail, count_byte);
     let PaddingAt::Whole(pad, next) = padding else {
-        return broken_head(size_rule(count_byte));
+        return broken_head(size_rule(count_byte), 2);
     };
     let at = 2 + next;
     let end = data.len() - pad;
@@ -145,15 +162,15 @@ fn read_3(data: &[u8], self_delimited: bool, lengths: &mut [u16; 48]) -> PacketH
         ≡ packetOf (read3 «self_delimited» (length (now («data» .entry))) (getD (now («data» .entry)) 0 0) (drop 1 (now («data» .entry)))) ⌝ }
 {
     if data.len() < 2 {
-        return broken_head(Rule::R5);
+        return broken_head(Rule::R5, 1);
     }
     let count = data[1] % 64;
     if count == 0 {
-        return broken_head(Rule::R5);
+        return broken_head(Rule::R5, 1);
     }
     let each = opus_toc::samples_48k(data[0]);
     if !each.fits(count as u16) {
-        return broken_head(Rule::R5);
+        return broken_head(Rule::R5, 1);
     }
     read_body(data, count as usize, self_delimited, lengths)
 }
@@ -187,11 +204,12 @@ fn read_packet(data: &[u8], self_delimited: bool, lengths: &mut [u16; 48]) -> Pa
     }
 }
 
-// An ordinary packet of one or two frames: their lengths, and the place of the first. `Counted` is code 3, which `read_into` reads.
+// An ordinary packet of one or two frames: their lengths, and the place of the first; or the rule that is broken and where. `Counted` is code 3, which
+// `read_into` reads.
 pub enum Short {
     One(u16, usize),
     Two(u16, u16, usize),
-    Broken(Rule),
+    Broken(Rule, usize),
     Counted,
 }
 
@@ -202,7 +220,7 @@ fn one_frame(data: &[u8]) -> Short
 {
     let rest = data.len() - 1;
     if opus_size::MOST_BYTES < rest {
-        return Short::Broken(Rule::R2);
+        return Short::Broken(Rule::R2, 1);
     }
     Short::One(rest as u16, 1)
 }
@@ -214,11 +232,11 @@ fn two_equal(data: &[u8]) -> Short
 {
     let rest = data.len() - 1;
     if rest % 2 != 0 {
-        return Short::Broken(Rule::R3);
+        return Short::Broken(Rule::R3, 0);
     }
     let each = rest / 2;
     if opus_size::MOST_BYTES < each {
-        return Short::Broken(Rule::R2);
+        return Short::Broken(Rule::R2, 1);
     }
     Short::Two(each as u16, each as u16, 1)
 }
@@ -230,16 +248,16 @@ fn two_unequal(data: &[u8]) -> Short
 {
     let size = opus_size::size_at(data, 1);
     let SizeAt::Whole(n, first) = size else {
-        return Short::Broken(Rule::R4);
+        return Short::Broken(Rule::R4, 1);
     };
     let left = data.len() - first;
     let one = wide(n);
     if left < one {
-        return Short::Broken(Rule::R4);
+        return Short::Broken(Rule::R4, 1);
     }
     let last = left - one;
     if opus_size::MOST_BYTES < last {
-        return Short::Broken(Rule::R2);
+        return Short::Broken(Rule::R2, first);
     }
     Short::Two(n, last as u16, first)
 }
@@ -249,7 +267,7 @@ pub fn short_at(data: &[u8]) -> Short
     ensures { λ r. ⌜ r ≡ shortAt (now («data» .entry)) ⌝ }
 {
     if data.len() == 0 {
-        return Short::Broken(Rule::R1);
+        return Short::Broken(Rule::R1, 0);
     }
     let c = data[0] % 4;
     match c {
@@ -270,7 +288,7 @@ pub fn read_into(data: &[u8], self_delimited: bool, lengths: &mut [u16; 48]) -> 
         return no_head(Refusal::BadArg);
     }
     if data.len() == 0 {
-        return broken_head(Rule::R1);
+        return broken_head(Rule::R1, 0);
     }
     read_packet(data, self_delimited, lengths)
 }

@@ -6,20 +6,21 @@
 use Prim.Native.Nat.{ℕ}
 use mathlib.Core.Path.{_≡_, refl}
 use mathlib.Core.List.{List}
-use lib.IntN.{ℤ, negsuc}
+use lib.IntN.{negsuc}
 use Rattle.laws.proofs.Never.{never}
 use Rattle.opus_defines.specs.Numbers.{refusalNumber}
 use Rattle.opus_defines.specs.Rules.{ruleRefusal}
 use Rattle.opus_defines.specs.Outcome.{Effect, refusal, wrote, Outcome, leaves}
 use Rattle.opus_defines.specs.declared.Rule.{Rule}
+use Rattle.opus_defines.specs.declared.Report.{Report}
 
-pub refusal-keeps : (s : List ℕ) (x : Effect) (n : ℕ) → leaves s x .number ≡ negsuc n → leaves s x .bytes ≡ s
+pub refusal-keeps : (s : List ℕ) (x : Effect) (n : ℕ) → leaves s x .report .number ≡ negsuc n → leaves s x .bytes ≡ s
 refusal-keeps s (refusal e) n h = refl
 refusal-keeps s (wrote k vs) n h = never (cc)
 
-pub meets : {o q : Outcome} {n : ℤ} {s : List ℕ} → o ≡ q → n ≡ q .number → s ≡ q .bytes → (n ≡ o .number) × (s ≡ o .bytes)
+pub meets : {o q : Outcome} {r : Report} {s : List ℕ} → o ≡ q → r ≡ q .report → s ≡ q .bytes → (r ≡ o .report) × (s ≡ o .bytes)
 meets e a b = rw e (a, b)
 
-pub rule-number : (r : Rule) → refusalNumber (ruleRefusal r) ≡ negsuc 3
+pub rule-number : (r : Rule) (place : ℕ) → refusalNumber (ruleRefusal r place) ≡ negsuc 3
 unfolding ruleRefusal
-rule-number r = refl
+rule-number r place = refl

@@ -1,11 +1,12 @@
--- What a call that writes into a lent buffer does, and what it leaves there: its number, and every byte of the buffer.
+-- What a call that writes into a lent buffer does, and what it leaves there: its report, and every byte of the buffer.
 use Prim.Native.Nat.{ℕ}
 use mathlib.Core.List.{List}
-use lib.IntN.{ℤ, pos}
+use lib.IntN.{pos}
 use lib.ListN.{length}
 use lib.Seq.{sets}
-use Rattle.opus_defines.specs.Numbers.{refusalNumber}
+use Rattle.opus_defines.specs.Numbers.{plain, refusalReport}
 use Rattle.opus_defines.specs.declared.Refusal.{Refusal}
+use Rattle.opus_defines.specs.declared.Report.{Report}
 
 -- it refuses, or it answers a number and puts bytes at the front
 pub data Effect : Type 0 where
@@ -17,13 +18,13 @@ abbrev pub written : List ℕ → Effect
 written vs = wrote (length vs) vs
 
 pub record Outcome : Type 0 where
-  pub number : ℤ
+  pub report : Report
   pub bytes : List ℕ
 
 -- a refusal leaves every byte of the buffer s as it was; what is past the bytes that were written is as it was
 abbrev pub leaves : List ℕ → Effect → Outcome
-leaves s (refusal e) = record { number = refusalNumber e; bytes = s }
-leaves s (wrote n vs) = record { number = pos n; bytes = sets s 0 vs }
+leaves s (refusal e) = record { report = refusalReport e; bytes = s }
+leaves s (wrote n vs) = record { report = plain (pos n); bytes = sets s 0 vs }
 
 abbrev pub refuses : Refusal → List ℕ → Outcome
 refuses e s = leaves s (refusal e)

@@ -1,20 +1,32 @@
 // The return numbers (opus_defines.rs of the crate, document 01 'Return numbers'), and the only places where a signed number is
 // taken apart or made.
 ghost use mathlib.Core.Path.{_≡_};
-ghost use Prim.Native.Nat.{ℕ, _<_, _^_};
+ghost use Prim.Native.Nat.{ℕ, _+_, _<_, _^_};
 ghost use lib.IntN.{pos};
-ghost use Rattle.opus_defines.specs.Numbers.{refusalNumber, numberOf, verdictNumber, countOf};
-ghost use Rattle.opus_defines.specs.Rules.{ruleRefusal};
+ghost use Rattle.opus_defines.specs.Numbers.{ruleNumber, refusalReport, refusalNumber, numberOf, reportOf, verdictNumber, verdictReport, countOf};
+ghost use Rattle.opus_defines.specs.Rules.{ruleRefusal, shifted};
 
 // Added, padded, nothing to pad.
 pub const OPUS_OK: u16 = 0;
 
-// Why a call refuses. One type for the whole project, so that a refusal can later carry more than its number.
+// Why a call refuses: one type for the whole project.
 pub enum Refusal {
     BadArg,
     BufferTooSmall,
     InvalidPacket,
     InvalidState,
+    // A packet that breaks a rule of RFC 6716, and the place of the first byte of the field concerned.
+    Unreadable(Rule, u16),
+    // A length field that is cut short, where the caller says which rule asks for it.
+    CutShort(Rule),
+}
+
+// What a call answers to C that reads a packet: a count or the refusal's number, and with an unreadable packet the rule, 1 to 8, and the place.
+#[repr(C)]
+pub struct Report {
+    pub number: i32,
+    pub rule: u16,
+    pub place: u16,
 }
 
 // The rules of RFC 6716, section 3.4, that a packet can break: R1 to R7, and R8 for a bad last length in the self-delimited form.
@@ -29,11 +41,43 @@ pub enum Rule {
     R8,
 }
 
-// The refusal of a packet that breaks a rule.
-pub fn rule_refusal(rule: Rule) -> Refusal
-    ensures { λ r. ⌜ r ≡ ruleRefusal rule ⌝ }
+// The refusal of a packet that breaks a rule at a place.
+pub fn rule_refusal(rule: Rule, place: usize) -> Refusal
+    requires { ⌜ place < 65536 ⌝ }
+    ensures { λ r. ⌜ r ≡ ruleRefusal rule place ⌝ }
 {
-    Refusal::InvalidPacket
+    Refusal::Unreadable(rule, place as u16)
+}
+
+// The refusal of a packet that stands so many bytes further on in the buffer that was lent.
+pub fn shift(e: Refusal, by: usize) -> Refusal
+    requires { ⌜ refusalReport e .place + by < 65536 ⌝ }
+    ensures { λ r. ⌜ r ≡ shifted by e ⌝ }
+{
+    match e {
+        Refusal::BadArg => Refusal::BadArg,
+        Refusal::BufferTooSmall => Refusal::BufferTooSmall,
+        Refusal::InvalidPacket => Refusal::InvalidPacket,
+        Refusal::InvalidState => Refusal::InvalidState,
+        Refusal::Unreadable(rule, place) => rule_refusal(rule, wide(place) + by),
+        Refusal::CutShort(rule) => Refusal::CutShort(rule),
+    }
+}
+
+// The number of a rule.
+pub fn rule_number(rule: Rule) -> u16
+    ensures { λ r. ⌜ r ≡ ruleNumber rule ⌝ }
+{
+    match rule {
+        Rule::R1 => 1,
+        Rule::R2 => 2,
+        Rule::R3 => 3,
+        Rule::R4 => 4,
+        Rule::R5 => 5,
+        Rule::R6 => 6,
+        Rule::R7 => 7,
+        Rule::R8 => 8,
+    }
 }
 
 // What an answer that is a record says beside its values.
@@ -48,15 +92,63 @@ pub enum Answer {
     Refused(Refusal),
 }
 
-// The number of a refusal.
+// The number of a refusal, with rule and place.
+pub fn refusal_report(e: Refusal) -> Report
+    ensures { λ r. ⌜ r ≡ refusalReport e ⌝ }
+{
+    match e {
+        Refusal::BadArg => Report {
+            number: -1,
+            rule: 0,
+            place: 0,
+        },
+        Refusal::BufferTooSmall => Report {
+            number: -2,
+            rule: 0,
+            place: 0,
+        },
+        Refusal::InvalidPacket => Report {
+            number: -4,
+            rule: 0,
+            place: 0,
+        },
+        Refusal::InvalidState => Report {
+            number: -6,
+            rule: 0,
+            place: 0,
+        },
+        Refusal::Unreadable(rule, place) => Report {
+            number: -4,
+            rule: rule_number(rule),
+            place,
+        },
+        Refusal::CutShort(rule) => Report {
+            number: -1,
+            rule: rule_number(rule),
+            place: 0,
+        },
+    }
+}
+
+// The number alone.
 pub fn refusal_number(e: Refusal) -> i32
     ensures { λ r. ⌜ r ≡ refusalNumber e ⌝ }
 {
-    match e {
-        Refusal::BadArg => -1,
-        Refusal::BufferTooSmall => -2,
-        Refusal::InvalidPacket => -4,
-        Refusal::InvalidState => -6,
+    let r = refusal_report(e);
+    r.number
+}
+
+// What a call returns that reads a packet.
+pub fn report_of(a: Answer) -> Report
+    ensures { λ r. ⌜ r ≡ reportOf a ⌝ }
+{
+    match a {
+        Answer::Number(n) => Report {
+            number: n as i32,
+            rule: 0,
+            place: 0,
+        },
+        Answer::Refused(e) => refusal_report(e),
     }
 }
 
@@ -64,10 +156,8 @@ pub fn refusal_number(e: Refusal) -> i32
 pub fn number_of(a: Answer) -> i32
     ensures { λ r. ⌜ r ≡ numberOf a ⌝ }
 {
-    match a {
-        Answer::Number(n) => n as i32,
-        Answer::Refused(e) => refusal_number(e),
-    }
+    let r = report_of(a);
+    r.number
 }
 
 // The number that a call returns whose answer is a record: n where it is accepted.
@@ -77,6 +167,20 @@ pub fn verdict_number(n: u16, v: Verdict) -> i32
     match v {
         Verdict::Accepted => n as i32,
         Verdict::Refused(e) => refusal_number(e),
+    }
+}
+
+// The same with rule and place.
+pub fn verdict_report(n: u16, v: Verdict) -> Report
+    ensures { λ r. ⌜ r ≡ verdictReport n v ⌝ }
+{
+    match v {
+        Verdict::Accepted => Report {
+            number: n as i32,
+            rule: 0,
+            place: 0,
+        },
+        Verdict::Refused(e) => refusal_report(e),
     }
 }
 

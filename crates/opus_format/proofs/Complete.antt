@@ -21,7 +21,7 @@ use Rattle.opus_defines.specs.declared.Rule.the-variants.{R2, R3, R4, R6, R7}
 use Rattle.opus_format.specs.Reading.{Front, front, frames3, accepted, accept, readCode, read, framesOf}
 use Rattle.opus_format.proofs.Frames.{cut-joined, total-lengths, longest-same}
 use Rattle.opus_format.proofs.Padding.{padding-read, padding-flag}
-use Rattle.opus_format.proofs.Fronts.{Holds, unequal-read, behind-read, equal-read}
+use Rattle.opus_format.proofs.Fronts.{Holds, unequal-read, equal-read}
 use Rattle.opus_format.proofs.Counts.{byte-unequal, byte-padded, byte-count, lasts-few, lasts-passes}
 
 -- ---- parts of the reader
@@ -91,7 +91,7 @@ pub layout-read : {sd : Bool} {six : ℕ} {head ns : List ℕ} {pad : ℕ} → L
 layout-read {sd} {six} (code0 n) h u k =
     toc-read sd six 0 (ownLength sd n ++ u) (omega arith)
     ∙ plain-read (tocByte six 0) (ownLength sd n) u (n ∷ [])
-    (unequal-read sd R2 [] n u (omega arith) (rw (add-zero (total (n ∷ []))) at k))
+    (unequal-read sd R2 [] n u h (rw (add-zero (total (n ∷ []))) at k))
 layout-read {sd} {six} (code1 n) h u k =
     toc-read sd six 1 (ownLength sd n ++ u) (omega arith)
     ∙ plain-read (tocByte six 1) (ownLength sd n) u (n ∷ n ∷ [])
@@ -100,14 +100,14 @@ layout-read {sd} {six} (code2 m n) h u k =
     let s = lengthField m ++ ownLength sd n in
     toc-read sd six 2 (s ++ u) (omega arith)
     ∙ plain-read (tocByte six 2) s u (m ∷ n ∷ [])
-    (rw append-nil at (behind-read sd R4 (m ∷ []) n u h (rw (add-zero (total (m ∷ n ∷ []))) at k)))
+    (rw append-nil at (unequal-read sd R4 (m ∷ []) n u h (rw (add-zero (total (m ∷ n ∷ []))) at k)))
 layout-read {sd} {six} (code3equal count n {p} l d) h u k =
     code3-read sd six 0 p count (ownLength sd n) u (replicate count n) (omega arith) l d k
     (λ t. equal-read sd R6 count n t (l .some) (omega (arith, longest-same count n (l .some))))
 layout-read {sd} {six} (code3unequal ns n {p} l d) h u k =
     let others : suc (length ns) - 1 ≡ length ns = omega arith in
     code3-read sd six 1 p (suc (length ns)) (lengthFields ns ++ ownLength sd n) u (ns ++ (n ∷ [])) (omega arith) l d k
-    (λ t w. rw others (behind-read sd R7 ns n t h w))
+    (λ t w. rw others (unequal-read sd R7 ns n t h w))
 
 -- the first byte of a header holds the six bits
 pub layout-toc : {sd : Bool} {six : ℕ} {head ns : List ℕ} {pad : ℕ} → Layout sd six head ns pad → (u : List ℕ)

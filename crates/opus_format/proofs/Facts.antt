@@ -1,24 +1,28 @@
 -- What callers know of a packet that was read, stated once.
 --     facts      count, lengths, places and time of an accepted packet
+--     said       its first bytes say how many frames it has
 -- Assumes nothing.
-use Prim.Native.Nat.{ℕ, suc, _+_, _*_, _/_, _≤_, _<_}
+use Prim.Native.Nat.{ℕ, suc, _+_, _*_, _/_, _%_, _≤_, _<_}
 use native.Mathlib.Omega.{arith}
 use mathlib.Core.Path.{_≡_, refl, sym, ap, _∙_}
-use mathlib.Core.List.{List, [], _∷_, _++_}
+use mathlib.Core.List.{List, [], _∷_, _++_, append-assoc}
 use mathlib.Core.Bool.{Bool}
 use lib.Dec.{leb}
-use lib.ListN.{length, getD, take, drop, replicate, length-append, length-replicate}
+use lib.ListN.{length, getD, take, drop, replicate, length-append, length-replicate, take-append-drop}
 use lib.Seq.{length-take-le}
 use borrow.Author.Tests.{leb-true, le-leb}
 use Rattle.laws.specs.Bytes.{Bytes}
 use Rattle.opus_size.specs.Size.{mostBytes}
-use Rattle.opus_toc.specs.Toc.{upperSix, configuration, duration, time}
+use Rattle.opus_defines.specs.declared.Answer.the-variants.{Number}
+use Rattle.opus_toc.specs.Toc.{upperSix, tocByte, configuration, duration, time}
+use Rattle.opus_toc.specs.Answers.{nbFrames}
 use Rattle.opus_toc.proofs.Samples.{lasts-at}
 use Rattle.opus_format.specs.Frames.{lengths, joined, cut, total, longest}
 use Rattle.opus_format.specs.Format.{Lasts, Layout, code0, code1, code2, code3equal, code3unequal, Spells}
 use Rattle.opus_format.specs.Reading.{accepted, read}
 use Rattle.opus_format.proofs.Frames.{total-lengths}
-use Rattle.opus_format.proofs.Counts.{lasts-few, two-last}
+use Rattle.opus_format.proofs.Counts.{byte-count, lasts-few, two-last}
+use Rattle.opus_format.proofs.Padding.{padding-flag}
 use Rattle.opus_format.proofs.Sound.{Spelled, read-spelled}
 
 -- the frames of every layout last at most 120 ms
@@ -36,6 +40,31 @@ layout-headed (code1 n) = omega arith
 layout-headed (code2 m n) = omega arith
 layout-headed (code3equal count n l d) = omega arith
 layout-headed (code3unequal ns n l d) = omega arith
+
+-- its first bytes say how many frames there are
+layout-said : {sd : Bool} {six : ℕ} {head ns : List ℕ} {pad : ℕ} → Layout sd six head ns pad → (u : List ℕ) → nbFrames (head ++ u)
+    ≡ Number (length ns)
+unfolding nbFrames
+layout-said {six = six} (code0 n) u = let c : tocByte six 0 % 4 ≡ 0 = omega arith in rw c
+layout-said {six = six} (code1 n) u = let c : tocByte six 1 % 4 ≡ 1 = omega arith in rw c
+layout-said {six = six} (code2 m n) u = let c : tocByte six 2 % 4 ≡ 2 = omega arith in rw c
+layout-said {six = six} (code3equal count n {p} l d) u =
+    let c : tocByte six 3 % 4 ≡ 3 = omega arith in
+    rw (c, byte-count 0 p count (omega arith) (padding-flag d) (omega (arith, lasts-few l)), length-replicate count n)
+layout-said {six = six} (code3unequal ns n {p} l d) u =
+    let c : tocByte six 3 % 4 ≡ 3 = omega arith in
+    let e : length (ns ++ (n ∷ [])) ≡ suc (length ns) = omega (arith, length-append ns (n ∷ [])) in
+    rw (c, byte-count 1 p (suc (length ns)) (omega arith) (padding-flag d) (omega (arith, lasts-few l)), e)
+
+pub said : (sd : Bool) (p : List ℕ) (toc : ℕ) (ns : List ℕ) (first taken : ℕ) → Bytes p → read sd p ≡ accepted toc ns first taken
+    → nbFrames p ≡ Number (length ns)
+said sd p toc ns first taken bytes r =
+    let w = read-spelled sd p toc ns first taken bytes r in
+    let q = w .packet in
+    let rest = joined (cut ns (drop first p)) ++ q .padding in
+    let whole : p ≡ q .head ++ (rest ++ drop taken p) =
+    sym (take-append-drop taken p) ∙ (ap (λ s. s ++ drop taken p) (q .bytes) ∙ append-assoc (q .head) rest (drop taken p)) in
+    ap nbFrames whole ∙ (layout-said (q .layout) (rest ++ drop taken p) ∙ ap (λ l. Number (length l)) (w .lengths-are))
 
 -- m is the length of what was read
 pub record Facts (m toc : ℕ) (ns : List ℕ) (first taken : ℕ) : Type 0 where

@@ -1,8 +1,7 @@
 -- The lengths of all frames, with the last or the only one left out or said: what is written is read back, and what is read was written so.
 -- `sd` is true for the self-delimited form.
---     unequal-read, unequal-was     frames of different lengths
 --     equal-read, equal-was         frames of one length
---     behind-read, behind-was       frames of different lengths, with the length fields of all but the last
+--     unequal-read, unequal-was     frames of different lengths, with the length fields of all but the last
 -- Assumes nothing.
 use Prim.Native.Nat.{ℕ, _+_, _*_, _-_, _/_, _%_, _≤_}
 use native.Mathlib.Nat.{mul-mod-right, mul-div-right, div-add-mod}
@@ -22,8 +21,8 @@ use Rattle.opus_format.specs.Frames.{total, longest}
 use Rattle.opus_format.specs.Format.{ownLength}
 use Rattle.opus_defines.specs.declared.Rule.{Rule}
 use Rattle.opus_defines.specs.declared.Rule.the-variants.{R2, R8}
-use Rattle.opus_format.specs.Reading.{broken, front, ownLast, lastLength, unequal, ownEqual, equal}
-use Rattle.opus_format.specs.Reading.{Fields, noFields, fields, readFields, behindFields}
+use Rattle.opus_format.specs.Reading.{broken, front, ownLast, lastLength, ownEqual, equal}
+use Rattle.opus_format.specs.Reading.{Fields, noFields, fields, readFields, together, behindFields, unequal}
 use Rattle.opus_format.proofs.Frames.{total-snoc, longest-snoc, total-same}
 use Rattle.opus_format.proofs.Fields.{fields-read, fields-was}
 
@@ -43,7 +42,7 @@ pub record FrontWas (sd : Bool) (of : ℕ → List ℕ) (s ns t : List ℕ) : Ty
 -- ---- the two forms, whatever lengths go by the number
 module _ (of : ℕ → List ℕ) (s ns t : List ℕ) (n : ℕ) where
   -- the frames take all of s
-  rest-was : total (of n) ≡ length s → cond (ltb mostBytes n) (broken R2) (front (of n) s) ≡ front ns t → FrontWas false of s ns t
+  rest-was : total (of n) ≡ length s → cond (ltb mostBytes n) (broken R2 s) (front (of n) s) ≡ front ns t → FrontWas false of s ns t
   rest-was size e =
       by-test (ltb mostBytes n) (λ d. never (cc))
       (λ d.
@@ -55,7 +54,7 @@ module _ (of : ℕ → List ℕ) (s ns t : List ℕ) (n : ℕ) where
 
   -- s says the number, and `need` bytes are enough
   own-was : (u : List ℕ) (need : ℕ) → total (of n) ≡ need → Bytes s → readField s ≡ field n u
-      → cond (ltb (length u) need) (broken R8) (front (of n) u) ≡ front ns t → FrontWas true of s ns t
+      → cond (ltb (length u) need) (broken R8 s) (front (of n) u) ≡ front ns t → FrontWas true of s ns t
   own-was u need size bytes f e =
       by-test (ltb (length u) need) (λ d. never (cc))
       (λ d.
@@ -70,16 +69,14 @@ module _ (of : ℕ → List ℕ) (s ns t : List ℕ) (n : ℕ) where
 abbrev pub ending : List ℕ → ℕ → List ℕ
 ending ns n = ns ++ (n ∷ [])
 
-pub unequal-read : (sd : Bool) (r : Rule) (ns : List ℕ) (n : ℕ) (t : List ℕ) → n ≤ mostBytes → Holds sd (total (ending ns n)) t
-    → unequal sd r ns (ownLength sd n ++ t) ≡ front (ending ns n) t
-unequal-read false r ns n t h k =
-    let size : length t ≡ total ns + n = omega (arith, k .full refl, total-snoc ns n) in
-    let last : length t - total ns ≡ n = omega arith in
-    rw (le-ltb (length t) (total ns) (omega arith), last, le-ltb mostBytes n h)
-unequal-read true r ns n t h k =
+last-read : (sd : Bool) (ns : List ℕ) (n : ℕ) (t : List ℕ) → n ≤ mostBytes → Holds sd (total (ending ns n)) t
+    → lastLength sd ns (ownLength sd n ++ t) ≡ front (ending ns n) t
+last-read false ns n t h k =
+    let last : length t - total ns ≡ n = omega (arith, k .full refl, k .enough, total-snoc ns n) in
+    rw (last, le-ltb mostBytes n h)
+last-read true ns n t h k =
     let fits : total ns + n ≤ length t = omega (arith, k .enough, total-snoc ns n) in
-    let more : total ns ≤ length (lengthField n ++ t) = omega (arith, length-append (lengthField n) t) in
-    rw (le-ltb (length (lengthField n ++ t)) (total ns) more, field-read t n h, le-ltb (length t) (total ns + n) fits)
+    rw (field-read t n h, le-ltb (length t) (total ns + n) fits)
 
 last-was : (sd : Bool) (ns s ms t : List ℕ) → Bytes s → total ns ≤ length s → lastLength sd ns s ≡ front ms t → FrontWas sd (ending ns) s ms t
 last-was false ns s ms t bytes h e =
@@ -87,14 +84,9 @@ last-was false ns s ms t bytes h e =
     rest-was (ending ns) s ms t n (omega (arith, total-snoc ns n)) e
 last-was true ns s ms t bytes h e = go (readField s) refl e
   where
-    go : (f : Field) → readField s ≡ f → ownLast ns f ≡ front ms t → FrontWas true (ending ns) s ms t
+    go : (f : Field) → readField s ≡ f → ownLast ns s f ≡ front ms t → FrontWas true (ending ns) s ms t
     go noField d e = never (cc)
     go (field n u) d e = own-was (ending ns) s ms t n u (total ns + n) (total-snoc ns n) bytes d e
-
-pub unequal-was : (sd : Bool) (r : Rule) (ns s ms t : List ℕ) → Bytes s → unequal sd r ns s ≡ front ms t → FrontWas sd (ending ns) s ms t
-unequal-was sd r ns s ms t bytes e =
-    by-test (ltb (length s) (total ns)) (λ d. never (cc))
-    (λ d. last-was sd ns s ms t bytes (ltb-false (length s) (total ns) d) (rw d at e))
 
 -- ---- frames of one length
 pub equal-read : (sd : Bool) (r : Rule) (count n : ℕ) (t : List ℕ) → 1 ≤ count → n ≤ mostBytes → Holds sd (total (replicate count n)) t
@@ -119,19 +111,22 @@ equal-was false r count s ms t bytes e =
     (λ d. never (cc))
 equal-was true r count s ms t bytes e = go (readField s) refl e
   where
-    go : (f : Field) → readField s ≡ f → ownEqual count f ≡ front ms t → FrontWas true (replicate count) s ms t
+    go : (f : Field) → readField s ≡ f → ownEqual count s f ≡ front ms t → FrontWas true (replicate count) s ms t
     go noField d e = never (cc)
     go (field n u) d e = own-was (replicate count) s ms t n u (count * n) (total-same count n) bytes d e
 
 -- ---- behind the length fields of all frames but the last
-pub behind-read : (sd : Bool) (r : Rule) (ns : List ℕ) (n : ℕ) (t : List ℕ) → longest (ending ns n) ≤ mostBytes → Holds sd (total (ending ns n)) t
-    → behindFields sd r (readFields (length ns) ((lengthFields ns ++ ownLength sd n) ++ t)) ≡ front (ending ns n) t
-behind-read sd r ns n t h k =
-    rw (append-assoc (lengthFields ns) (ownLength sd n) t, fields-read ns (ownLength sd n ++ t) (omega (arith, longest-snoc ns n)))
-    (unequal-read sd r ns n t (omega (arith, longest-snoc ns n)) k)
+pub unequal-read : (sd : Bool) (r : Rule) (ns : List ℕ) (n : ℕ) (t : List ℕ) → longest (ending ns n) ≤ mostBytes → Holds sd (total (ending ns n)) t
+    → unequal sd r (length ns) ((lengthFields ns ++ ownLength sd n) ++ t) ≡ front (ending ns n) t
+unequal-read sd r ns n t h k =
+    let u = ownLength sd n ++ t in
+    let room : total ns ≤ length u = omega (arith, k .enough, total-snoc ns n, length-append (ownLength sd n) t) in
+    let small = longest-snoc ns n in
+    rw (append-assoc (lengthFields ns) (ownLength sd n) t, fields-read ns u (omega (arith, small)) room, le-ltb (length u) (total ns) room)
+    (last-read sd ns n t (omega (arith, small)) k)
 
 -- the bytes s begin with the fields of k lengths, and with the last length where the form asks for it
-pub record BehindWas (sd : Bool) (k : ℕ) (s ms t : List ℕ) : Type 0 where
+pub record UnequalWas (sd : Bool) (k : ℕ) (s ms t : List ℕ) : Type 0 where
   pub others : List ℕ
   pub last : ℕ
   pub count : length others ≡ k
@@ -140,15 +135,13 @@ pub record BehindWas (sd : Bool) (k : ℕ) (s ms t : List ℕ) : Type 0 where
   pub small : longest ms ≤ mostBytes
   pub holds : Holds sd (total ms) t
 
-pub behind-was : (sd : Bool) (r : Rule) (k : ℕ) (s ms t : List ℕ) → Bytes s → behindFields sd r (readFields k s) ≡ front ms t
-    → BehindWas sd k s ms t
-behind-was sd r k s ms t bytes e = go (readFields k s) refl e
+pub unequal-was : (sd : Bool) (r : Rule) (k : ℕ) (s ms t : List ℕ) → Bytes s → unequal sd r k s ≡ front ms t → UnequalWas sd k s ms t
+unequal-was sd r k s ms t bytes e = go (readFields k s) refl e
   where
-    go : (f : Fields) → readFields k s ≡ f → behindFields sd r f ≡ front ms t → BehindWas sd k s ms t
-    go noFields d e = never (cc)
-    go (fields ns u) d e =
+    fit : (ns u : List ℕ) → readFields k s ≡ fields ns u → total ns ≤ length u → lastLength sd ns u ≡ front ms t → UnequalWas sd k s ms t
+    fit ns u d h e =
         let were = fields-was k s ns u bytes d in
-        let was = unequal-was sd r ns u ms t (bytes-after (lengthFields ns) u (rw (were .spelled) at bytes)) e in
+        let was = last-was sd ns u ms t (bytes-after (lengthFields ns) u (rw (were .spelled) at bytes)) h e in
         record {
           others = ns;
           last = was .last;
@@ -158,3 +151,10 @@ behind-was sd r k s ms t bytes e = go (readFields k s) refl e
           small = rw (was .same) (omega (arith, longest-snoc ns (was .last), were .small, was .small));
           holds = was .holds;
         }
+
+    go : (f : Fields) → readFields k s ≡ f → behindFields sd r (together f) ≡ front ms t → UnequalWas sd k s ms t
+    go (noFields u) d e = never (cc)
+    go (fields ns u) d e =
+        by-test (ltb (length u) (total ns))
+        (λ c. never (let q : broken r u ≡ front ms t = rw c at e in cc))
+        (λ c. fit ns u d (ltb-false (length u) (total ns) c) (rw c at e))

@@ -4,6 +4,8 @@ pub mod Padding
 pub mod Fronts
 pub mod Counts
 pub mod Complete
+pub mod Within
+pub mod Broken
 pub mod Sound
 pub mod Facts
 pub mod Lengths

@@ -22,11 +22,11 @@ use Rattle.opus_format.specs.Frames.{lengths, cut, total, longest}
 use Rattle.opus_format.specs.Format.{countByte, Lasts, Padding, ownLength, Spells, Behind}
 use Rattle.opus_format.specs.Format.{Layout, code0, code1, code2, code3equal, code3unequal}
 use Rattle.opus_defines.specs.declared.Rule.the-variants.{R2, R3, R4, R6, R7}
-use Rattle.opus_format.specs.Reading.{Front, broken, front, unequal, readFields, behindFields, equal, readPadding}
+use Rattle.opus_format.specs.Reading.{Front, broken, front, unequal, equal, readPadding}
 use Rattle.opus_format.specs.Reading.{frames3, lasts, accepted, accept, behindPadding, read3, readCode, read}
 use Rattle.opus_format.proofs.Frames.{joined-cut, lengths-cut, longest-same}
 use Rattle.opus_format.proofs.Padding.{padding-was}
-use Rattle.opus_format.proofs.Fronts.{Holds, FrontWas, unequal-was, behind-was, equal-was}
+use Rattle.opus_format.proofs.Fronts.{Holds, FrontWas, unequal-was, equal-was}
 use Rattle.opus_format.proofs.Counts.{byte-whole, passed-lasts}
 use Rattle.opus_format.proofs.Complete.{layout-read, layout-toc}
 
@@ -73,17 +73,25 @@ unfolding Plain
 as-plain toc c e l = rw (toc-whole toc c e) at l
 
 module _ (sd : Bool) (toc : ℕ) (s ns t : List ℕ) (bytes : Bytes s) where
-  body0 : toc % 4 ≡ 0 → unequal sd R2 [] s ≡ front ns t → Body sd (Plain sd toc) s ns t
+  body0 : toc % 4 ≡ 0 → unequal sd R2 0 s ≡ front ns t → Body sd (Plain sd toc) s ns t
   body0 c e =
-      front-body (Plain sd toc) (λ n. as-plain toc 0 c (code0 n)) (λ n. omega arith) (unequal-was sd R2 [] s ns t bytes e)
+      let w = unequal-was sd R2 0 s ns t bytes e in
+      go (w .others) (w .last) (w .count) (w .same) (w .spelled) (w .small) (w .holds)
+    where
+      go : (ms : List ℕ) (n : ℕ) → length ms ≡ 0 → ns ≡ ms ++ (n ∷ []) → s ≡ lengthFields ms ++ ownLength sd n ++ t
+          → longest ns ≤ mostBytes
+          → Holds sd (total ns) t → Body sd (Plain sd toc) s ns t
+      go [] n none same spelled small holds =
+          record { part = ownLength sd n; spelled = spelled; layout = rw same (as-plain toc 0 c (code0 n)); small = small; holds = holds }
+      go (m ∷ ms) n none same spelled small holds = absurd (omega arith)
 
   body1 : toc % 4 ≡ 1 → equal sd R3 2 s ≡ front ns t → Body sd (Plain sd toc) s ns t
   body1 c e =
       front-body (Plain sd toc) (λ n. as-plain toc 1 c (code1 n)) (λ n. omega arith) (equal-was sd R3 2 s ns t bytes e)
 
-  body2 : toc % 4 ≡ 2 → behindFields sd R4 (readFields 1 s) ≡ front ns t → Body sd (Plain sd toc) s ns t
+  body2 : toc % 4 ≡ 2 → unequal sd R4 1 s ≡ front ns t → Body sd (Plain sd toc) s ns t
   body2 c e =
-      let w = behind-was sd R4 1 s ns t bytes e in
+      let w = unequal-was sd R4 1 s ns t bytes e in
       go (w .others) (w .last) (w .count) (w .same) (w .spelled) (w .small) (w .holds)
     where
       go : (ms : List ℕ) (n : ℕ) → length ms ≡ 1 → ns ≡ ms ++ (n ∷ []) → s ≡ lengthFields ms ++ ownLength sd n ++ t
@@ -107,7 +115,7 @@ module _ (sd : Bool) (six p count pad : ℕ) (a s ns t : List ℕ) (l : Lasts si
       front-body (λ b ns. Layout sd six (tocByte six 3 ∷ countByte 0 p count ∷ (a ++ b)) ns pad) (λ n. code3equal count n l d)
       (λ n. longest-same count n (l .some)) (equal-was sd R6 count s ns t bytes e)
   body3 (suc zero) h e =
-      let w = behind-was sd R7 (count - 1) s ns t bytes e in
+      let w = unequal-was sd R7 (count - 1) s ns t bytes e in
       let many : suc (length (w .others)) ≡ count = omega (arith, w .count, l .some) in
       let part = lengthFields (w .others) ++ ownLength sd (w .last) in
       let k : Layout sd six (tocByte six 3 ∷ countByte 1 p (suc (length (w .others))) ∷ (a ++ part)) (w .others ++ (w .last ∷ [])) pad =
@@ -147,7 +155,7 @@ module _ (sd : Bool) (toc toc′ : ℕ) (ns : List ℕ) (first taken : ℕ) wher
   accept-laid : (a s q : List ℕ) (f : Front)
       → ((t : List ℕ) → f ≡ front ns t → Body sd (λ b ns. Layout sd (upperSix toc) (toc ∷ (a ++ b)) ns (length q)) s ns t)
       → accept (suc (length (a ++ (s ++ q)))) toc (length q) f ≡ accepted toc′ ns first taken → Laid sd (toc ∷ (a ++ (s ++ q))) toc′ ns first taken
-  accept-laid a s q (broken r) body e = never (cc)
+  accept-laid a s q (broken r u) body e = never (cc)
   accept-laid a s q (front ms t) body e =
       let same : ms ≡ ns = cc in
       let w = body t (ap (λ l. front l t) same) in
@@ -221,10 +229,9 @@ read-laid sd (a ∷ s) toc ns first taken bytes e = go (a % 4) refl e
     inner = bytes-tail bytes
 
     go : (c : ℕ) → a % 4 ≡ c → readCode sd c (suc (length s)) a s ≡ accepted toc ns first taken → Laid sd (a ∷ s) toc ns first taken
-    go zero c e = plain-laid sd a toc ns first taken s (unequal sd R2 [] s) (λ t. body0 sd a s ns t inner c) e
+    go zero c e = plain-laid sd a toc ns first taken s (unequal sd R2 0 s) (λ t. body0 sd a s ns t inner c) e
     go (suc zero) c e = plain-laid sd a toc ns first taken s (equal sd R3 2 s) (λ t. body1 sd a s ns t inner c) e
-    go (suc (suc zero)) c e =
-        plain-laid sd a toc ns first taken s (behindFields sd R4 (readFields 1 s)) (λ t. body2 sd a s ns t inner c) e
+    go (suc (suc zero)) c e = plain-laid sd a toc ns first taken s (unequal sd R4 1 s) (λ t. body2 sd a s ns t inner c) e
     go (suc (suc (suc zero))) c e = read3-laid sd a toc ns first taken s inner c e
     go (suc (suc (suc (suc k)))) c e = absurd (omega arith)
 

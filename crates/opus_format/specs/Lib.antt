@@ -1,3 +1,4 @@
 pub mod Frames
 pub mod Format
 pub mod Reading
+pub mod Broken

@@ -1,5 +1,5 @@
 -- Frames behind length fields of a slice, as the code has them: a lent array of 48 lengths, the place of the first frame, and the sum.
---     frames-cut, frames-over       unequal lengths that are not all there, and frames that are longer than what is left
+--     frames-cut                    unequal lengths that are not all there, or frames that are longer than what is left
 --     rest-.., own-..               the last frame takes the rest, or says its length: one law for each `return`
 --     shared-.., each-..            equal lengths: the frames share the slice, or say their one length
 --     Within, ..-within             frames that were found lie within the slice, and are as many as asked for
@@ -8,7 +8,7 @@
 use Prim.Native.Nat.{ℕ, zero, suc, _+_, _*_, _-_, _/_, _%_, _≤_, _<_}
 use native.Mathlib.Omega.{arith}
 use native.Mathlib.Nat.{div-add-mod, mul-div-le}
-use mathlib.Core.Path.{_≡_, refl, ap, _∙_}
+use mathlib.Core.Path.{_≡_, refl, sym, ap, _∙_}
 use mathlib.Core.List.{List, [], _∷_, _++_}
 use mathlib.Core.Bool.{Bool, true, false}
 use lib.Dec.{ltb, eqb}
@@ -20,19 +20,20 @@ use Rattle.opus_size.proofs.At.{Read, nothing, something, read-at, Found}
 use Rattle.opus_format.specs.Frames.{total}
 use Rattle.opus_defines.specs.declared.Rule.{Rule}
 use Rattle.opus_defines.specs.declared.Rule.the-variants.{R2, R6, R7, R8}
-use Rattle.opus_format.specs.Reading.{Front, broken, front, ownLast, lastLength, Fields, readFields, behindFields, ownEqual, equal, frames3}
+use Rattle.opus_format.specs.Reading.{Front, broken, front, ownLast, lastLength, Fields, readFields, together, behindFields}
+use Rattle.opus_format.specs.Reading.{unequal, ownEqual, equal, frames3}
 use Rattle.opus_format.specs.Frames.{padded48}
 use Rattle.opus_parts.specs.Parts.{sizesAt, SizesRead, FramesRead}
 use Rattle.opus_parts.specs.declared.sizes_at.SizesAt.the-variants.{All, Cut}
 use Rattle.opus_parts.specs.declared.frames_at.FramesAt.{FramesAt}
 use Rattle.opus_parts.specs.declared.frames_at.FramesAt.the-variants.{At, Broken}
 use Rattle.opus_format.proofs.Frames.{total-snoc, total-same}
-use Rattle.opus_parts.proofs.AtSizes.{padded-more, place-is, Known, known, none-known, Placed, nowhere, here, placed}
+use Rattle.opus_parts.proofs.AtSizes.{padded-more, place-is, Known, known, none-known, Fitting, misfit, fit, fitting}
 
 -- ---- frames from a place of the slice on
 -- of unequal lengths, the last of which is stored behind the others
-unequal-at : (s ns lengths : List ℕ) (n k next sum : ℕ)
-    → length ns ≡ k → k < 48 → next ≤ length s → lengths ≡ padded48 ns → sum ≡ total ns + n
+unequal-at : (s ns lengths : List ℕ) (n k next sum : ℕ) → length ns ≡ k → k < 48 → next ≤ length s → lengths ≡ padded48 ns → sum
+    ≡ total ns + n
     → FramesRead s (front (ns ++ (n ∷ [])) (drop next s)) (At next sum) (set lengths k n)
 unequal-at s ns lengths n k next sum l b h f t =
     let all : total (ns ++ (n ∷ [])) ≡ sum = omega (arith, total-snoc ns n) in
@@ -44,67 +45,65 @@ equal-at : (s lengths : List ℕ) (count n next sum : ℕ) → lengths ≡ padde
 equal-at s lengths count n next sum f h t = (rw (place-is s next h, total-same count n, t), f)
 
 -- ---- unequal lengths
-pub sizes-inside : (s : List ℕ) (k next sum : ℕ) (lengths : List ℕ) → SizesRead s (readFields k s) (All next sum) lengths → next ≤ length s
-sizes-inside s k next sum lengths e = known s k next sum lengths e .inside
+pub sizes-inside : (s : List ℕ) (k next sum : ℕ) (lengths : List ℕ) → SizesRead s (together (readFields k s)) (All next sum) lengths
+    → (next ≤ length s) × (sum ≤ length s - next)
+sizes-inside s k next sum lengths e = let all = known s k next sum lengths e in (all .inside, all .fits)
 
 module _ (s : List ℕ) (k : ℕ) (r : Rule) where
-  pub frames-cut : (sd : Bool) → Cut ≡ sizesAt (length s) (readFields k s) → (l : List ℕ)
-      → FramesRead s (behindFields sd r (readFields k s)) (Broken r) l
-  frames-cut sd e l = rw (none-known s k e) (refl, tt)
+  pub frames-cut : (sd : Bool) (place : ℕ) → Cut place ≡ sizesAt (length s) (together (readFields k s)) → (l : List ℕ)
+      → FramesRead s (unequal sd r k s) (Broken r place) l
+  frames-cut sd place e l = let b = none-known s k place e in rw (b .1) (ap (Broken r) (b .2), tt)
 
-  module _ (next sum : ℕ) (lengths : List ℕ) (e : SizesRead s (readFields k s) (All next sum) lengths) where
-    all : Known s k next sum lengths
-    all = known s k next sum lengths e
+  module _ (next sum : ℕ) (lengths : List ℕ) (e : SizesRead s (together (readFields k s)) (All next sum) lengths) where
+    found : Known s k next sum lengths
+    found = known s k next sum lengths e
 
     left : length (drop next s) ≡ length s - next
     left = length-drop next s
 
-    pub frames-over : (sd : Bool) → length s - next < sum → (l : List ℕ) → FramesRead s (behindFields sd r (readFields k s)) (Broken r) l
-    frames-over sd h l = rw (all .means, left, ← all .summed, lt-ltb _ _ h) (refl, tt)
+    -- what breaks behind the fields points there
+    there : (x : Rule) → Broken x next ≡ Broken x (length s - length (drop next s))
+    there x = ap (Broken x) (sym (place-is s next (found .inside)))
 
-    module _ (h : sum ≤ length s - next) where
-      means : (sd : Bool) → behindFields sd r (readFields k s) ≡ lastLength sd (all .ns) (drop next s)
-      means sd =
-          let enough : ltb (length (drop next s)) (total (all .ns)) ≡ false =
-          le-ltb (length (drop next s)) (total (all .ns)) (omega (arith, left, all .summed)) in
-          rw (all .means, enough)
+    pub rest-long : mostBytes < length s - next - sum → (l : List ℕ) → FramesRead s (unequal false r k s) (Broken R2 next) l
+    rest-long m l = rw (found .means, left, ← found .summed, lt-ltb _ _ m) (ap (Broken R2) (sym (place-is s next (found .inside))), tt)
 
-      pub rest-long : mostBytes < length s - next - sum → (l : List ℕ) → FramesRead s (behindFields false r (readFields k s)) (Broken R2) l
-      rest-long m l = rw (means false, left, ← all .summed, lt-ltb _ _ m) (refl, tt)
+    pub rest-read : k < 48 → length s - next - sum ≤ mostBytes
+        → FramesRead s (unequal false r k s) (At next (length s - next)) (set lengths k (length s - next - sum))
+    rest-read b m =
+        let n = length s - next - sum in
+        let last : unequal false r k s ≡ front (found .ns ++ (n ∷ [])) (drop next s) = rw (found .means, left, ← found .summed, le-ltb _ _ m) in
+        rw last (unequal-at s (found .ns) lengths n k next _ (found .count) b (found .inside) (found .filled) (omega (arith, found .summed, found .fits)))
 
-      pub rest-read : k < 48 → length s - next - sum ≤ mostBytes
-          → FramesRead s (behindFields false r (readFields k s)) (At next (length s - next)) (set lengths k (length s - next - sum))
-      rest-read b m =
-          let n = length s - next - sum in
-          let last : behindFields false r (readFields k s) ≡ front (all .ns ++ (n ∷ [])) (drop next s) =
-          rw (means false, left, ← all .summed, le-ltb _ _ m) in
-          rw last (unequal-at s (all .ns) lengths n k next _ (all .count) b (all .inside) (all .filled) (omega (arith, all .summed)))
+    pub own-short : readField (drop next s) ≡ noField → (l : List ℕ) → FramesRead s (unequal true r k s) (Broken R8 next) l
+    own-short e l = rw (found .means, e) (there R8, tt)
 
-      pub own-short : readField (drop next s) ≡ noField → (l : List ℕ) → FramesRead s (behindFields true r (readFields k s)) (Broken R8) l
-      own-short e l = rw (means true, e) (refl, tt)
+    module _ (n first wide : ℕ) (g : Found s next n first) (q : wide ≡ n) where
+      pub own-over : length s - first < sum + wide → (l : List ℕ) → FramesRead s (unequal true r k s) (Broken R8 next) l
+      own-over m l =
+          let less : ltb (length (drop first s)) (total (found .ns) + n) ≡ true =
+          lt-ltb (length (drop first s)) (total (found .ns) + n) (omega (arith, length-drop first s, found .summed)) in
+          rw (found .means, g .means, less) (there R8, tt)
 
-      module _ (n first wide : ℕ) (g : Found s next n first) (q : wide ≡ n) where
-        pub own-over : length s - first < sum + wide → (l : List ℕ) → FramesRead s (behindFields true r (readFields k s)) (Broken R8) l
-        own-over m l =
-            let less : ltb (length (drop first s)) (total (all .ns) + n) ≡ true =
-            lt-ltb (length (drop first s)) (total (all .ns) + n) (omega (arith, length-drop first s, all .summed)) in
-            rw (means true, g .means, less) (refl, tt)
-
-        pub own-read : k < 48 → sum + wide ≤ length s - first
-            → FramesRead s (behindFields true r (readFields k s)) (At first (sum + wide)) (set lengths k n)
-        own-read b m =
-            let enough : ltb (length (drop first s)) (total (all .ns) + n) ≡ false =
-            le-ltb (length (drop first s)) (total (all .ns) + n) (omega (arith, length-drop first s, all .summed)) in
-            rw (means true, g .means, enough) (unequal-at s (all .ns) lengths n k first _ (all .count) b (g .within) (all .filled) (omega (arith, all .summed)))
+      pub own-read : k < 48 → sum + wide ≤ length s - first → FramesRead s (unequal true r k s) (At first (sum + wide)) (set lengths k n)
+      own-read b m =
+          let enough : ltb (length (drop first s)) (total (found .ns) + n) ≡ false =
+          le-ltb (length (drop first s)) (total (found .ns) + n) (omega (arith, length-drop first s, found .summed)) in
+          rw (found .means, g .means, enough)
+          (unequal-at s (found .ns) lengths n k first _ (found .count) b (g .within) (found .filled) (omega (arith, found .summed)))
 
 -- ---- equal lengths
 module _ (s : List ℕ) (count : ℕ) (r : Rule) where
-  pub shared-uneven : (length s % count ≡ 0 → ⊥) → (l : List ℕ) → FramesRead s (equal false r count s) (Broken r) l
-  shared-uneven n l = rw (ne-eqb _ _ n) (refl, tt)
+  -- what breaks points at the front of the slice
+  at-front : (x : Rule) → Broken x 0 ≡ Broken x (length s - length s)
+  at-front x = let none : 0 ≡ length s - length s = omega arith in ap (Broken x) none
+
+  pub shared-uneven : (length s % count ≡ 0 → ⊥) → (l : List ℕ) → FramesRead s (equal false r count s) (Broken r 0) l
+  shared-uneven n l = rw (ne-eqb _ _ n) (at-front r, tt)
 
   module _ (z : length s % count ≡ 0) where
-    pub shared-long : mostBytes < length s / count → (l : List ℕ) → FramesRead s (equal false r count s) (Broken R2) l
-    shared-long h l = rw (eq-eqb _ _ z, lt-ltb _ _ h) (refl, tt)
+    pub shared-long : mostBytes < length s / count → (l : List ℕ) → FramesRead s (equal false r count s) (Broken R2 0) l
+    shared-long h l = rw (eq-eqb _ _ z, lt-ltb _ _ h) (at-front R2, tt)
 
     pub shared-read : (lengths : List ℕ) → lengths ≡ padded48 (replicate count (length s / count)) → length s / count ≤ mostBytes
         → FramesRead s (equal false r count s) (At 0 (length s)) lengths
@@ -113,18 +112,18 @@ module _ (s : List ℕ) (count : ℕ) (r : Rule) where
         let each : equal false r count s ≡ front (replicate count (length s / count)) s = rw (eq-eqb _ _ z, le-ltb _ _ h) in
         rw each (equal-at s lengths count (length s / count) 0 (length s) f (omega arith) all)
 
-  pub each-short : readField s ≡ noField → (l : List ℕ) → FramesRead s (equal true r count s) (Broken R8) l
-  each-short e l = rw e (refl, tt)
+  pub each-short : readField s ≡ noField → (l : List ℕ) → FramesRead s (equal true r count s) (Broken R8 0) l
+  each-short e l = rw e (at-front R8, tt)
 
   module _ (n first wide : ℕ) (g : Found s 0 n first) (q : wide ≡ n) where
     product : count * wide ≡ count * n
     product = ap (λ (x : ℕ). count * x) q
 
-    pub each-over : length s - first < count * wide → (l : List ℕ) → FramesRead s (equal true r count s) (Broken R8) l
+    pub each-over : length s - first < count * wide → (l : List ℕ) → FramesRead s (equal true r count s) (Broken R8 0) l
     each-over h l =
         let less : ltb (length (drop first s)) (count * n) ≡ true =
         lt-ltb (length (drop first s)) (count * n) (omega (arith, length-drop first s, product)) in
-        rw (g .means, less) (refl, tt)
+        rw (g .means, less) (at-front R8, tt)
 
     pub each-read : (lengths : List ℕ) → lengths ≡ padded48 (replicate count n) → count * wide ≤ length s - first
         → FramesRead s (equal true r count s) (At first (count * wide)) lengths
@@ -133,9 +132,9 @@ module _ (s : List ℕ) (count : ℕ) (r : Rule) where
         le-ltb (length (drop first s)) (count * n) (omega (arith, length-drop first s, product)) in
         rw (g .means, enough) (equal-at s lengths count n first (count * wide) f (g .within) product)
 
--- ---- frames that were found lie within the slice, and are as many as asked for
+-- ---- frames that were found lie within the slice, and are as many as asked for; a field that breaks lies within it
 abbrev pub Within : ℕ → ℕ → Front → Type 0
-Within m count (broken r) = Unit {0}
+Within m count (broken r t) = length t ≤ m
 Within m count (front ns t) = (length t ≤ m) × (total ns ≤ length t) × (length ns ≡ count)
 
 module _ (s : List ℕ) (count : ℕ) where
@@ -152,37 +151,35 @@ module _ (s : List ℕ) (count : ℕ) where
   last-within : (sd : Bool) (ns : List ℕ) (at : ℕ) → length ns + 1 ≡ count → total ns ≤ length (drop at s)
       → Within (length s) count (lastLength sd ns (drop at s))
   last-within false ns at c h =
-      cond-elim (Within (length s) count) (ltb mostBytes (length (drop at s) - total ns)) _ _ (λ e. tt)
+      cond-elim (Within (length s) count) (ltb mostBytes (length (drop at s) - total ns)) _ _ (λ e. omega (arith, length-drop at s))
       (λ e. (
         omega (arith, length-drop at s),
         omega (arith, total-snoc ns (length (drop at s) - total ns)),
         omega (arith, length-append ns ((length (drop at s) - total ns) ∷ [])),
       ))
   last-within true ns at c h =
-      from-field (ownLast ns) at tt
+      from-field (ownLast ns (drop at s)) at (omega (arith, length-drop at s))
       (λ n t l.
-      cond-elim (Within (length s) count) (ltb (length t) (total ns + n)) _ _ (λ e. tt)
+      cond-elim (Within (length s) count) (ltb (length t) (total ns + n)) _ _ (λ e. omega (arith, length-drop at s))
       (λ e. (l, omega (arith, ltb-false (length t) (total ns + n) e, total-snoc ns n), omega (arith, length-append ns (n ∷ [])))))
 
-  pub unequal-within : (sd : Bool) (r : Rule) (k : ℕ) → k + 1 ≡ count → Within (length s) count (behindFields sd r (readFields k s))
-  unequal-within sd r k c = go (placed s k 0 (omega arith))
+  pub unequal-within : (sd : Bool) (r : Rule) (k : ℕ) → k + 1 ≡ count → Within (length s) count (unequal sd r k s)
+  unequal-within sd r k c = go (fitting s k)
     where
-      go : {f : Fields} → Placed s k f → Within (length s) count (behindFields sd r f)
-      go nowhere = tt
-      go (here ns next l h) =
-          cond-elim (Within (length s) count) (ltb (length (drop next s)) (total ns)) _ _ (λ e. tt)
-          (λ e. last-within sd ns next (omega arith) (ltb-false (length (drop next s)) (total ns) e))
+      go : {f : Fields} → Fitting s k f → Within (length s) count (behindFields sd r f)
+      go (misfit t h) = h
+      go (fit ns next l h room) = last-within sd ns next (omega arith) (omega (arith, length-drop next s))
 
   pub equal-within : (sd : Bool) (r : Rule) → Within (length s) count (equal sd r count s)
   equal-within false r =
       cond-elim (Within (length s) count) (eqb (length s % count) 0) _ _
-      (λ e. cond-elim (Within (length s) count) (ltb mostBytes (length s / count)) _ _ (λ e₂. tt)
+      (λ e. cond-elim (Within (length s) count) (ltb mostBytes (length s / count)) _ _ (λ e₂. omega arith)
       (λ e₂. (omega arith, omega (arith, total-same count (length s / count), mul-div-le (length s) count), length-replicate count (length s / count))))
-      (λ e. tt)
+      (λ e. omega arith)
   equal-within true r =
-      from-field (ownEqual count) 0 tt
+      from-field (ownEqual count s) 0 (omega arith)
       (λ n t l.
-      cond-elim (Within (length s) count) (ltb (length t) (count * n)) _ _ (λ e. tt)
+      cond-elim (Within (length s) count) (ltb (length t) (count * n)) _ _ (λ e. omega arith)
       (λ e. (l, omega (arith, ltb-false (length t) (count * n) e, total-same count n), length-replicate count n)))
 
   pub frames-within : (sd : Bool) (v : ℕ) → 1 ≤ count → Within (length s) count (frames3 sd v count s)
@@ -194,7 +191,7 @@ module _ (s : List ℕ) (sd : Bool) (v count : ℕ) (f : FramesAt) (l : List ℕ
   pub three-equal : v ≡ 0 → FramesRead s (equal sd R6 count s) f l → FramesRead s (frames3 sd v count s) f l
   three-equal e g = rw e g
 
-  pub three-unequal : (v ≡ 0 → ⊥) → FramesRead s (behindFields sd R7 (readFields (count - 1) s)) f l → FramesRead s (frames3 sd v count s) f l
+  pub three-unequal : (v ≡ 0 → ⊥) → FramesRead s (unequal sd R7 (count - 1) s) f l → FramesRead s (frames3 sd v count s) f l
   three-unequal n g = go v n
     where
       go : (v : ℕ) → (v ≡ 0 → ⊥) → FramesRead s (frames3 sd v count s) f l

@@ -20,31 +20,36 @@ use Rattle.opus_parts.specs.declared.padding_at.PaddingAt.the-variants.{
 
 -- ---- length fields
 abbrev pub sizesAt : ℕ → Fields → SizesAt
-sizesAt m noFields = Cut
+sizesAt m (noFields t) = Cut (m - length t)
 sizesAt m (fields ns t) = All (m - length t) (total ns)
 
 abbrev pub sizesLent : Fields → List ℕ → Type 0
-sizesLent noFields l = Unit {0}
+sizesLent (noFields t) l = Unit {0}
 sizesLent (fields ns t) l = l ≡ padded48 ns
 
 abbrev pub SizesRead : List ℕ → Fields → SizesAt → List ℕ → Type 0
 SizesRead s r f l = (f ≡ sizesAt (length s) r) × (sizesLent r l)
 
+-- where the fields break, or end
+abbrev pub stopAt : ℕ → Fields → ℕ
+stopAt m (noFields t) = m - length t
+stopAt m (fields ns t) = m - length t
+
 -- ---- frames
 abbrev pub framesAt : ℕ → Front → FramesAt
-framesAt m (broken rule) = Broken rule
+framesAt m (broken rule t) = Broken rule (m - length t)
 framesAt m (front ns t) = At (m - length t) (total ns)
 
 abbrev pub framesLent : Front → List ℕ → Type 0
-framesLent (broken rule) l = Unit {0}
+framesLent (broken rule t) l = Unit {0}
 framesLent (front ns t) l = l ≡ padded48 ns
 
 abbrev pub FramesRead : List ℕ → Front → FramesAt → List ℕ → Type 0
 FramesRead s r f l = (f ≡ framesAt (length s) r) × (framesLent r l)
 
--- the place behind the frames
+-- the place behind the frames, or where they break
 abbrev pub endOf : FramesAt → ℕ
-endOf (Broken rule) = 0
+endOf (Broken rule place) = place
 endOf (At first sum) = first + sum
 
 -- ---- padding: if it does not fit, it is refused with the chain

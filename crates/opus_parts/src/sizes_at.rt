@@ -2,22 +2,43 @@
 ghost use mathlib.Core.Path.{_≡_};
 ghost use mathlib.Core.List.{[]};
 ghost use Prim.Native.Nat.{_<_, _≤_};
-ghost use lib.ListN.{replicate};
-ghost use Rattle.opus_format.specs.Reading.{readFields};
+ghost use lib.ListN.{length, replicate};
+ghost use Rattle.opus_format.specs.Reading.{readFields, together};
 ghost use Rattle.opus_format.specs.Frames.{padded48};
-ghost use Rattle.opus_parts.specs.Parts.{SizesRead};
+ghost use Rattle.opus_parts.specs.Parts.{SizesRead, stopAt};
 use opus_defines::wide;
 use opus_size::SizeAt;
 
-// Several length fields at the front of a slice: the place behind them and the sum of the lengths, or that they are not all there.
+// Several length fields at the front of a slice: the place behind them and the sum of the lengths, or the place where they break.
 pub enum SizesAt {
     All(usize, usize),
-    Cut,
+    Cut(usize),
 }
 
+// Where k length fields break: at the first that is not whole or above what stands behind it, else behind them. For refused packets alone.
+fn break_at(s: &[u8], k: usize) -> usize
+    ensures { λ r. ⌜ r ≡ stopAt (length (now (s .entry))) (readFields k (now (s .entry))) ⌝ }
+{
+    let mut next: usize = 0;
+    let mut i: usize = 0;
+    while i < k {
+        let f = opus_size::size_at(s, next);
+        let SizeAt::Whole(size, after) = f else {
+            return next;
+        };
+        if s.len() - after < wide(size) {
+            return next;
+        }
+        next = after;
+        i += 1;
+    }
+    next
+}
+
+// No length is tested by itself: where the sum fits, each does, and where it does not, `break_at` looks for the place.
 pub fn read_sizes(s: &[u8], k: usize, lengths: &mut [u16; 48]) -> SizesAt
     requires { ⌜ (k < 48) × (now lengths ≡ padded48 []) ⌝ }
-    ensures { λ r. ⌜ SizesRead (now (s .entry)) (readFields k (now (s .entry))) r (now (lengths .exit)) ⌝ }
+    ensures { λ r. ⌜ SizesRead (now (s .entry)) (together (readFields k (now (s .entry)))) r (now (lengths .exit)) ⌝ }
 {
     let mut next: usize = 0;
     let mut total: usize = 0;
@@ -25,12 +46,15 @@ pub fn read_sizes(s: &[u8], k: usize, lengths: &mut [u16; 48]) -> SizesAt
     while i < k {
         let f = opus_size::size_at(s, next);
         let SizeAt::Whole(size, after) = f else {
-            return SizesAt::Cut;
+            return SizesAt::Cut(break_at(s, k));
         };
         lengths[i] = size;
         total += wide(size);
         next = after;
         i += 1;
+    }
+    if s.len() - next < total {
+        return SizesAt::Cut(break_at(s, k));
     }
     SizesAt::All(next, total)
 }

@@ -1,7 +1,8 @@
 -- A length field at a place of a slice: what stands there is what is read of the bytes from that place on.
 --     at-end, at-short, at-cut, at-long     what `size_at` finds, by the bytes there
 --     whole-was, short-was                  what a caller of `size_at` knows of the list
---     front-whole, front-short              the same at the front of the slice, for `parse_size`
+--     front-whole, front-short              the same at the front of the slice, for `parse_size`,
+--     told-..                               by the rule that it is told
 -- Assumes nothing.
 use Prim.Native.Nat.{ℕ, suc, _+_, _*_, _-_, _≤_, _<_}
 use native.Mathlib.Omega.{arith}
@@ -12,13 +13,15 @@ use mathlib.Core.Bool.{Bool, true, false}
 use lib.Dec.{ltb, leb}
 use lib.ListN.{length, getD, drop, drop-of-length-le, length-drop}
 use lib.Seq.{drop-cons}
-use borrow.Author.Tests.{le-ltb, leb-true, leb-false, ltb-true, ltb-false}
+use borrow.Author.Tests.{le-ltb, leb-true, leb-false, ltb-true, ltb-false, ne-eqb}
 use Rattle.laws.proofs.Never.{never, by-test}
 use Rattle.opus_size.specs.Size.{readField, Field, noField, field}
-use Rattle.opus_size.specs.Answers.{placed, sizeAt, parseSize}
+use Rattle.opus_size.specs.Answers.{placed, sizeAt, noSize, sizeTold, parseSize}
 use Rattle.opus_size.specs.declared.SizeAt.the-variants.{Whole, Short}
-use Rattle.opus_defines.specs.declared.Verdict.the-variants.{Accepted, Refused}
-use Rattle.opus_defines.specs.declared.Refusal.the-variants.{BadArg}
+use Rattle.opus_defines.specs.declared.Verdict.the-variants.{Accepted}
+use Rattle.opus_defines.specs.declared.Refusal.the-variants.{BadArg, CutShort}
+use Rattle.opus_defines.specs.declared.Rule.{Rule}
+use Rattle.opus_defines.specs.declared.Rule.the-variants.{R4, R7, R8}
 use Rattle.opus_size.proofs.Fields.{read-short, read-long}
 
 module _ (s : List ℕ) (at : ℕ) where
@@ -105,14 +108,32 @@ short-was s at e = go (read-at s at)
     go (nothing r) = r
     go (something n next l w r) = never (let q = rw r at e in cc)
 
-module _ (s : List ℕ) where
-  pub front-short : sizeAt s 0 ≡ Short → record { verdict = Refused BadArg; bytes = 0; size = 0 } ≡ parseSize s
-  unfolding parseSize
+module _ (s : List ℕ) (rule : Rule) where
+  pub front-short : sizeAt s 0 ≡ Short → noSize (CutShort rule) ≡ sizeTold rule s
+  unfolding sizeTold
   front-short e = rw (short-was s 0 e)
 
-  pub front-whole : (n next : ℕ) → sizeAt s 0 ≡ Whole n next → record { verdict = Accepted; bytes = next; size = n } ≡ parseSize s
-  unfolding parseSize
+  pub front-whole : (n next : ℕ) → sizeAt s 0 ≡ Whole n next → record { verdict = Accepted; bytes = next; size = n } ≡ sizeTold rule s
+  unfolding sizeTold
   front-whole n next e =
       let f = whole-was s 0 n next e in
       let place : length s - length (drop next s) ≡ next = omega (arith, length-drop next s, f .within) in
       rw (f .means, place)
+
+-- ---- the rule that the length reader is told
+module _ (s : List ℕ) (told : ℕ) where
+  pub told-4 : told ≡ 4 → sizeTold R4 s ≡ parseSize told s
+  unfolding parseSize
+  told-4 e = rw e
+
+  pub told-7 : told ≡ 7 → sizeTold R7 s ≡ parseSize told s
+  unfolding parseSize
+  told-7 e = rw e
+
+  pub told-8 : told ≡ 8 → sizeTold R8 s ≡ parseSize told s
+  unfolding parseSize
+  told-8 e = rw e
+
+  pub told-other : (told ≡ 4 → ⊥) → (told ≡ 7 → ⊥) → (told ≡ 8 → ⊥) → noSize BadArg ≡ parseSize told s
+  unfolding parseSize
+  told-other a b c = rw (ne-eqb told 4 a, ne-eqb told 7 b, ne-eqb told 8 c)

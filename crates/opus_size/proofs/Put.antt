@@ -29,11 +29,11 @@ module _ (l : List ℕ) (at n : ℕ) where
 
 -- what `encode_size` leaves, by the tests on its way
 module _ (z : ℤ) (s : List ℕ) where
-  pub encode-negative : countOf z ≡ Negative → (refusalNumber BadArg ≡ encodeSize z s .number) × (s ≡ encodeSize z s .bytes)
+  pub encode-negative : countOf z ≡ Negative → (refusalNumber BadArg ≡ encodeSize z s .report .number) × (s ≡ encodeSize z s .bytes)
   unfolding encodeSize
   encode-negative = go z
     where
-      go : (z : ℤ) → countOf z ≡ Negative → (refusalNumber BadArg ≡ encodeSize z s .number) × (s ≡ encodeSize z s .bytes)
+      go : (z : ℤ) → countOf z ≡ Negative → (refusalNumber BadArg ≡ encodeSize z s .report .number) × (s ≡ encodeSize z s .bytes)
       go (pos n) e = never (cc)
       go (negsuc n) e = (refl, refl)
 
@@ -41,16 +41,16 @@ module _ (z : ℤ) (s : List ℕ) where
     is-pos : z ≡ pos n
     is-pos = is-natural z n e
 
-    pub encode-long : mostBytes < n → (refusalNumber BadArg ≡ encodeSize z s .number) × (s ≡ encodeSize z s .bytes)
+    pub encode-long : mostBytes < n → (refusalNumber BadArg ≡ encodeSize z s .report .number) × (s ≡ encodeSize z s .bytes)
     unfolding encodeSize
     encode-long h = rw (is-pos, lt-ltb mostBytes n h) (refl, refl)
 
-    pub encode-full : n ≤ mostBytes → length s < length (lengthField n)
-        → (refusalNumber BufferTooSmall ≡ encodeSize z s .number) × (s ≡ encodeSize z s .bytes)
+    pub encode-full : n ≤ mostBytes → length s < length (lengthField n) → (refusalNumber BufferTooSmall ≡ encodeSize z s .report .number)
+        × (s ≡ encodeSize z s .bytes)
     unfolding encodeSize
     encode-full h k = rw (is-pos, le-ltb mostBytes n h, lt-ltb (length s) (length (lengthField n)) k) (refl, refl)
 
     pub encode-put : n ≤ mostBytes → length (lengthField n) ≤ length s
-        → (pos (length (lengthField n)) ≡ encodeSize z s .number) × (sets s 0 (lengthField n) ≡ encodeSize z s .bytes)
+        → (pos (length (lengthField n)) ≡ encodeSize z s .report .number) × (sets s 0 (lengthField n) ≡ encodeSize z s .bytes)
     unfolding encodeSize
     encode-put h k = rw (is-pos, le-ltb mostBytes n h, le-ltb (length s) (length (lengthField n)) k) (refl, refl)

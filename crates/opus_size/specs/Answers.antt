@@ -2,12 +2,15 @@
 use Prim.Native.Nat.{ℕ, _-_}
 use mathlib.Core.List.{List}
 use mathlib.Core.Bool.{cond}
-use lib.Dec.{ltb}
+use lib.Dec.{ltb, eqb}
 use lib.IntN.{ℤ, pos, negsuc}
 use lib.ListN.{length, drop}
 use Rattle.opus_defines.specs.Numbers.{verdictNumber}
 use Rattle.opus_defines.specs.Outcome.{Effect, refusal, written, Outcome, leaves}
-use Rattle.opus_defines.specs.declared.Refusal.the-variants.{BadArg, BufferTooSmall}
+use Rattle.opus_defines.specs.declared.Refusal.{Refusal}
+use Rattle.opus_defines.specs.declared.Refusal.the-variants.{BadArg, BufferTooSmall, CutShort}
+use Rattle.opus_defines.specs.declared.Rule.{Rule}
+use Rattle.opus_defines.specs.declared.Rule.the-variants.{R4, R7, R8}
 use Rattle.opus_defines.specs.declared.Verdict.the-variants.{Accepted, Refused}
 use Rattle.opus_size.specs.Size.{mostBytes, lengthField, Field, noField, field, readField}
 use Rattle.opus_size.specs.declared.Size.{Size}
@@ -25,17 +28,26 @@ encodes (pos n) room =
 unfoldable pub encodeSize : ℤ → List ℕ → Outcome
 encodeSize x s = leaves s (encodes x (length s))
 
--- `parse_size`: the bytes used and the size; all zeros beside a refusal
-abbrev pub sizeOf : List ℕ → Field → Size
-sizeOf s noField = record { verdict = Refused BadArg; bytes = 0; size = 0 }
-sizeOf s (field n t) = record { verdict = Accepted; bytes = length s - length t; size = n }
+-- all zeros beside a refusal
+abbrev pub noSize : Refusal → Size
+noSize e = record { verdict = Refused e; bytes = 0; size = 0 }
+
+-- the bytes used and the size; a field that is cut short names the rule that asks for it (document 02, M-100)
+abbrev pub sizeOf : Rule → List ℕ → Field → Size
+sizeOf rule s noField = noSize (CutShort rule)
+sizeOf rule s (field n t) = record { verdict = Accepted; bytes = length s - length t; size = n }
 
 -- the number that the crate returns: the bytes used, or the refusal's
 abbrev pub sizeNumber : Size → ℤ
 sizeNumber r = verdictNumber (pos (r .bytes)) (r .verdict)
 
-unfoldable pub parseSize : List ℕ → Size
-parseSize s = sizeOf s (readField s)
+unfoldable pub sizeTold : Rule → List ℕ → Size
+sizeTold rule s = sizeOf rule s (readField s)
+
+-- `parse_size`, told rule 4, 7 or 8
+unfoldable pub parseSize : ℕ → List ℕ → Size
+parseSize told s =
+    cond (eqb told 4) (sizeTold R4 s) (cond (eqb told 7) (sizeTold R7 s) (cond (eqb told 8) (sizeTold R8 s) (noSize BadArg)))
 
 -- a length at a place: the size, and the place behind its field
 abbrev pub placed : ℕ → Field → SizeAt

@@ -4,10 +4,11 @@ ghost use Prim.Native.Nat.{_+_, _*_, _<_, _≤_};
 ghost use lib.ListN.{length};
 ghost use lib.Seq.{sets};
 ghost use Rattle.opus_size.specs.Size.{mostBytes, lengthField};
-ghost use Rattle.opus_size.specs.Answers.{encodeSize, parseSize, sizeAt};
+ghost use Rattle.opus_size.specs.Answers.{encodeSize, noSize, sizeTold, parseSize, sizeAt};
 use opus_defines::Answer;
 use opus_defines::Count;
 use opus_defines::Refusal;
+use opus_defines::Rule;
 use opus_defines::Verdict;
 
 // The longest frame, in bytes.
@@ -49,21 +50,39 @@ pub struct Size {
     pub size: u16,
 }
 
-// The length at the front of `data`; BadArg where its field is cut short.
-pub fn parse_size(data: &[u8]) -> Size
-    ensures { λ r. ⌜ r ≡ parseSize (now («data» .entry)) ⌝ }
+fn no_size(e: Refusal) -> Size
+    ensures { λ r. ⌜ r ≡ noSize e ⌝ }
+{
+    Size {
+        verdict: Verdict::Refused(e),
+        bytes: 0,
+        size: 0,
+    }
+}
+
+// The length at the front of `data`, for which a rule asks.
+fn size_told(data: &[u8], rule: Rule) -> Size
+    ensures { λ r. ⌜ r ≡ sizeTold rule (now («data» .entry)) ⌝ }
 {
     let SizeAt::Whole(size, bytes) = size_at(data, 0) else {
-        return Size {
-            verdict: Verdict::Refused(Refusal::BadArg),
-            bytes: 0,
-            size: 0,
-        };
+        return no_size(Refusal::CutShort(rule));
     };
     Size {
         verdict: Verdict::Accepted,
         bytes,
         size,
+    }
+}
+
+// The length at the front of `data`, told that rule 4, 7 or 8 asks for it.
+pub fn parse_size(data: &[u8], rule: u16) -> Size
+    ensures { λ r. ⌜ r ≡ parseSize rule (now («data» .entry)) ⌝ }
+{
+    match rule {
+        4 => size_told(data, Rule::R4),
+        7 => size_told(data, Rule::R7),
+        8 => size_told(data, Rule::R8),
+        _ => no_size(Refusal::BadArg),
     }
 }
 
@@ -91,7 +110,7 @@ pub fn put_size(data: &mut [u8], at: usize, size: usize) -> usize
 
 // Writes the field of a size at the front of `data`, and answers its bytes.
 pub fn encode_size(size: i32, data: &mut [u8]) -> i32
-    ensures number { λ r. ⌜ r ≡ encodeSize size (now («data» .entry)) .number ⌝ }
+    ensures number { λ r. ⌜ r ≡ encodeSize size (now («data» .entry)) .report .number ⌝ }
     ensures bytes { λ _. ⌜ now («data» .exit) ≡ encodeSize size (now («data» .entry)) .bytes ⌝ }
 {
     let Count::Is(n) = opus_defines::count_of(size) else {

@@ -118,7 +118,7 @@ pub fn opus_packet_get_samples_per_frame(data: &[u8], rate: i32) -> i32
 }
 
 // How many frames the TOC byte and, for code 3, the count byte say.
-fn nb_frames(data: &[u8]) -> Answer
+pub fn nb_frames(data: &[u8]) -> Answer
     ensures { λ r. ⌜ r ≡ nbFrames (now («data» .entry)) ⌝ }
 {
     if data.len() == 0 {

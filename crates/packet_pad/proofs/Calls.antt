@@ -4,6 +4,7 @@
 --     pad-passed, unpad-passed         a call is passed the bits of its numbers
 --     pad-read, pad-refused            pad, by the reader's answer
 --     unpad-read, unpad-refused        unpad, by the reader's answer
+--     report-answered, pad-place       what pad answers, with the place of a refusal
 -- Assumes nothing.
 use Prim.Native.Nat.{ℕ, _≤_}
 use native.Mathlib.Omega.{arith}
@@ -16,17 +17,21 @@ use mir.Syntax.{w32}
 use mir.Val.{toZ, ofZ, SFits}
 use mir.ValLaws.{toZ-ofZ}
 use borrow.Author.Tests.{ne-eqb}
-use Rattle.opus_defines.specs.Outcome.{refusal, wrote, written, leaves, refuses}
+use Rattle.opus_defines.specs.Numbers.{reportOf}
+use Rattle.opus_defines.specs.Rules.{ruleRefusal}
+use Rattle.opus_defines.specs.Outcome.{Effect, refusal, wrote, written, leaves, refuses}
 use Rattle.opus_defines.specs.declared.Refusal.{Refusal}
 use Rattle.opus_defines.specs.declared.Refusal.the-variants.{BadArg}
 use Rattle.opus_defines.specs.declared.Verdict.the-variants.{Refused}
 use Rattle.opus_toc.specs.Toc.{upperSix}
 use Rattle.opus_format.specs.Frames.{cut}
+use Rattle.opus_format.specs.Reading.{Reading, refused, accepted, read}
+use Rattle.opus_format.proofs.Within.{refused-within}
 use Rattle.opus.specs.Answers.{parsed}
 use Rattle.opus.specs.declared.Packet.{Packet}
 use Rattle.opus_header.specs.Compact.{compact, filling}
 use Rattle.packet_pad.specs.Lengths.{lengthOf, lengthsOf}
-use Rattle.packet_pad.specs.Pad.{padPacket, padded}
+use Rattle.packet_pad.specs.Pad.{answered, padReading, padPacket, padded}
 use Rattle.packet_pad.specs.Unpad.{unpadPacket, unpadded}
 use Rattle.packet_pad.specs.declared.lengths.Lengths.the-variants.{Bad, Same, More}
 use Rattle.opus.proofs.Parsed.{lengthsOf as readLengths, parsed-refused}
@@ -82,8 +87,22 @@ module _ (s : List ℕ) (len : ℕ) where
 
     pub pad-refused : (new : ℕ) → padPacket (take len s) new ≡ refusal e
     unfolding padPacket
-    pad-refused new = let q = parsed-refused false (take len s) r p e v few in rw (q .2) (ap refusal (sym (q .1)))
+    pad-refused new = let q = parsed-refused false (take len s) r p e v few in rw (q .3) (ap refusal (sym (q .2)))
 
     pub unpad-refused : unpadPacket (take len s) ≡ refusal e
     unfolding unpadPacket
-    unpad-refused = let q = parsed-refused false (take len s) r p e v few in rw (q .2) (ap refusal (sym (q .1)))
+    unpad-refused = let q = parsed-refused false (take len s) r p e v few in rw (q .3) (ap refusal (sym (q .2)))
+
+-- ---- what pad answers
+pub report-answered : (s : List ℕ) (x : Effect) → reportOf (answered x) ≡ leaves s x .report
+report-answered s (refusal e) = refl
+report-answered s (wrote n vs) = refl
+
+-- the place of a refusal is within the packet
+pub pad-place : (p : List ℕ) (new : ℕ) → reportOf (answered (padPacket p new)) .place ≤ length p
+unfolding padPacket ruleRefusal
+pad-place p new = go (read false p) refl
+  where
+    go : (x : Reading) → read false p ≡ x → reportOf (answered (padReading p new x)) .place ≤ length p
+    go (refused rule place) r = refused-within false p rule place r
+    go (accepted toc ns first taken) r = omega arith

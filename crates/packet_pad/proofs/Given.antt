@@ -103,6 +103,10 @@ more-by a b n m e =
     let other = eqb-false a b v in
     (first, second, omega arith, omega (arith, ltb-false b a w))))))
 
+pub more-is : (s : List ℕ) (x y : ℤ) (n m : ℕ) → lengthsOf s x y ≡ More n m → lengthOf s x ≡ n
+unfolding lengthsOf
+more-is s x y n m e = more-by (lengthOf s x) (lengthOf s y) n m e .0
+
 pub more-within : (s : List ℕ) (x y : ℤ) (n m : ℕ) → lengthsOf s x y ≡ More n m → (1 ≤ n) × (n < m) × (m ≤ length s) × (m ≤ 65535)
 unfolding lengthsOf
 more-within s x y n m e =

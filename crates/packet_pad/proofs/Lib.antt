@@ -4,4 +4,5 @@ pub mod Rewritten
 pub mod Calls
 pub mod Spelled
 pub mod Stages
+pub mod Naming
 pub mod Promises

@@ -19,6 +19,7 @@ use Rattle.opus_toc.specs.Toc.{upperSix}
 use Rattle.opus_format.specs.Frames.{cut}
 use Rattle.opus_format.specs.Format.{Spells}
 use Rattle.opus_format.specs.Reading.{accepted, read, framesOf}
+use Rattle.opus.specs.Named.{Named}
 use Rattle.opus_header.specs.Compact.{compact, filling}
 use Rattle.opus_header.proofs.Filling.{filling-length}
 use Rattle.opus_header.proofs.Rebuilt.{spelled-some, compact-of, never-longer}
@@ -28,6 +29,7 @@ use Rattle.packet_pad.specs.Unpad.{unpadPacket, unpadded}
 use Rattle.packet_pad.proofs.Given.{length-outside, first-outside, new-outside}
 use Rattle.packet_pad.proofs.Calls.{pad-bad, unpad-none}
 use Rattle.packet_pad.proofs.Spelled.{read-whole, reads-back, filling-of, pad-spelled, pad-equal, unpad-spelled, unpad-written}
+use Rattle.packet_pad.proofs.Naming.{pad-named, unpad-named}
 use Rattle.packet_pad.proofs.Stages.{pad-stages, pad-front, unpad-again}
 
 -- a packet that the reader accepts, in the first len bytes of a buffer
@@ -85,12 +87,14 @@ module _ (s : List ℕ) (bytes : Bytes s) (len : ℕ) (fits : len ≤ length s) 
   pad-by-stages = pad-stages s len fits most packet
 
   -- Unpadded twice, it is what unpadding once gives, in number and bytes.
-  pub unpad-twice : let once = unpadded s (pos len) in unpadded (once .bytes) (once .number) ≡ once
+  pub unpad-twice : let once = unpadded s (pos len) in unpadded (once .bytes) (once .report .number) ≡ once
   unpad-twice = unpad-again s len fits most packet
 
 -- M-112. Two packets with the same frames and upper six TOC bits, both shorter than m, pad to the same m bytes.
-module _ (s : List ℕ) (bytes : Bytes s) (len : ℕ) (toc : ℕ) (ns : List ℕ) (first taken : ℕ) (r : read false (take len s) ≡ accepted toc ns first taken)
-    (t : List ℕ) (other : Bytes t) (long : ℕ) (mark : ℕ) (ks : List ℕ) (from used : ℕ) (q : read false (take long t) ≡ accepted mark ks from used) where
+module _ (s : List ℕ) (bytes : Bytes s) (len : ℕ) (toc : ℕ) (ns : List ℕ) (first taken : ℕ)
+    (r : read false (take len s) ≡ accepted toc ns first taken)
+    (t : List ℕ) (other : Bytes t) (long : ℕ) (mark : ℕ) (ks : List ℕ) (from used : ℕ)
+    (q : read false (take long t) ≡ accepted mark ks from used) where
   pub same-frames-pad-alike : upperSix toc ≡ upperSix mark → cut ns (drop first (take len s)) ≡ cut ks (drop from (take long t))
       → (m : ℕ) → len < m → long < m → m ≤ length s → m ≤ length t → m ≤ 65535
       → take m (padded s (pos len) (pos m) .bytes) ≡ take m (padded t (pos long) (pos m) .bytes)
@@ -101,20 +105,27 @@ module _ (s : List ℕ) (bytes : Bytes s) (len : ℕ) (toc : ℕ) (ns : List ℕ
       ∙ (rw (six, frames) (sym (pad-front t long (omega arith) (omega arith) v m fewer space short)))
 
 -- 7. A refusal leaves every byte.
-pub refused-pad-changes-nothing : (s : List ℕ) (len new : ℤ) (n : ℕ) → padded s len new .number ≡ negsuc n → padded s len new .bytes ≡ s
+pub refused-pad-changes-nothing : (s : List ℕ) (len new : ℤ) (n : ℕ) → padded s len new .report .number ≡ negsuc n → padded s len new .bytes ≡ s
 unfolding padded
 refused-pad-changes-nothing s len new n e = refusal-keeps s (byLengths (λ n m. padPacket (take n s) m) (lengthsOf s len new)) n e
 
-pub refused-unpad-changes-nothing : (s : List ℕ) (len : ℤ) (n : ℕ) → unpadded s len .number ≡ negsuc n → unpadded s len .bytes ≡ s
+pub refused-unpad-changes-nothing : (s : List ℕ) (len : ℤ) (n : ℕ) → unpadded s len .report .number ≡ negsuc n → unpadded s len .bytes ≡ s
 unfolding unpadded
 refused-unpad-changes-nothing s len n e = refusal-keeps s (bounded (λ n. unpadPacket (take n s)) (lengthOf s len)) n e
 
 -- 8. A length that is negative, 0, above the buffer or above 65,535 is refused by -1, whatever else is wrong.
-pub pad-length-outside : (s : List ℕ) (len new : ℤ) → Outside s len → padded s len new .number ≡ negsuc 0
+pub pad-length-outside : (s : List ℕ) (len new : ℤ) → Outside s len → padded s len new .report .number ≡ negsuc 0
 pad-length-outside s len new o = rw (pad-bad s len new (first-outside s len new o))
 
-pub pad-new-length-outside : (s : List ℕ) (len new : ℤ) → Outside s new → padded s len new .number ≡ negsuc 0
+pub pad-new-length-outside : (s : List ℕ) (len new : ℤ) → Outside s new → padded s len new .report .number ≡ negsuc 0
 pad-new-length-outside s len new o = rw (pad-bad s len new (new-outside s len new o))
 
-pub unpad-length-outside : (s : List ℕ) (len : ℤ) → Outside s len → unpadded s len .number ≡ negsuc 0
+pub unpad-length-outside : (s : List ℕ) (len : ℤ) → Outside s len → unpadded s len .report .number ≡ negsuc 0
 unpad-length-outside s len o = rw (unpad-none s len 0 (length-outside s len o) refl)
+
+-- M-100. Rule and place are those of the reader's refusal of the packet, and 0 in every other answer.
+pub pad-names : (s : List ℕ) (len new : ℤ) → Named (take (lengthOf s len) s) (padded s len new .report)
+pad-names = pad-named
+
+pub unpad-names : (s : List ℕ) (len : ℤ) → Named (take (lengthOf s len) s) (unpadded s len .report)
+unpad-names = unpad-named

@@ -15,6 +15,7 @@ use lib.Seq.{sets, length-take-le, length-sets}
 use borrow.Author.Tests.{eqb-true, eqb-false}
 use Rattle.laws.proofs.Never.{by-test}
 use Rattle.blocks.proofs.Sets.{sets-over, take-sets}
+use Rattle.opus_defines.specs.Numbers.{plain}
 use Rattle.opus_defines.specs.Outcome.{Outcome, writes}
 use Rattle.opus_format.specs.Format.{Spells}
 use Rattle.opus_header.specs.Compact.{compact, filling}
@@ -28,13 +29,14 @@ use Rattle.packet_pad.proofs.Spelled.{filling-of, pad-spelled, pad-equa
 
 -- ---- a number, and bytes at the front of a buffer
 abbrev pub at-front : ℕ → List ℕ → Outcome
-at-front n s = record { number = pos n; bytes = s }
+at-front n s = record { report = plain (pos n); bytes = s }
 
 -- bytes over no more bytes: what was there before does not tell
 pub laid-over : (n : ℕ) (s us vs : List ℕ) → length us ≤ length vs → at-front n (sets (sets s 0 us) 0 vs) ≡ at-front n (sets s 0 vs)
 laid-over n s us vs h = ap (at-front n) (sets-over s 0 us vs h)
 
-module _ {six : ℕ} {frames : List (List ℕ)} (s : List ℕ) (len : ℕ) (fits : len ≤ length s) (most : len ≤ 65535) (w : Spells false six (take len s) frames) where
+module _ {six : ℕ} {frames : List (List ℕ)} (s : List ℕ) (len : ℕ) (fits : len ≤ length s) (most : len ≤ 65535)
+    (w : Spells false six (take len s) frames) where
   least : length (compact false six frames) ≤ len
   least = omega (arith, never-longer w, length-take-le len s fits)
 
@@ -80,7 +82,7 @@ module _ {six : ℕ} {frames : List (List ℕ)} (s : List ℕ) (len : ℕ) (fits
       (pad-on n less m room short on ∙ sym (pad-spelled s len fits most w m (omega arith) room short)))
 
   -- ---- unpad
-  pub unpad-again : let once = unpadded s (pos len) in unpadded (once .bytes) (once .number) ≡ once
+  pub unpad-again : let once = unpadded s (pos len) in unpadded (once .bytes) (once .report .number) ≡ once
   unpad-again =
       let c = compact false six frames in
       rw (unpad-spelled s len fits most w)

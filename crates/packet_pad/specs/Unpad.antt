@@ -14,7 +14,7 @@ use Rattle.packet_pad.specs.Lengths.{lengthOf, bounded}
 
 -- the compact packet of what was read; it has 1 to as many bytes as were read (`rebuilds`, opus_header/proofs/Rebuilt.antt)
 abbrev pub unpadReading : List ℕ → Reading → Effect
-unpadReading p (refused rule) = refusal (ruleRefusal rule)
+unpadReading p (refused rule place) = refusal (ruleRefusal rule place)
 unpadReading p (accepted toc ns first taken) = written (compact false (upperSix toc) (cut ns (drop first p)))
 
 unfoldable pub unpadPacket : List ℕ → Effect

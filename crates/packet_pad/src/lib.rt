@@ -7,7 +7,7 @@ ghost use mathlib.Core.Bool.{false};
 ghost use Prim.Native.Nat.{_+_, _<_, _≤_};
 ghost use lib.ListN.{length, take, drop};
 ghost use lib.Seq.{sets};
-ghost use Rattle.opus_defines.specs.Numbers.{numberOf};
+ghost use Rattle.opus_defines.specs.Numbers.{reportOf};
 ghost use Rattle.opus_defines.specs.Outcome.{leaves};
 ghost use Rattle.opus_size.specs.Size.{mostBytes};
 ghost use Rattle.opus_toc.specs.Toc.{upperSix};
@@ -17,13 +17,14 @@ ghost use Rattle.opus_header.specs.Header.{compactHeader};
 ghost use Rattle.opus_header.specs.Compact.{compact, filling};
 ghost use Rattle.opus_header.specs.Sums.{sumsOf};
 ghost use Rattle.opus_header.specs.Forms.{missing, formPacket};
-ghost use Rattle.packet_pad.specs.Pad.{padPacket, padded};
+ghost use Rattle.packet_pad.specs.Pad.{answered, padPacket, padded};
 ghost use Rattle.packet_pad.specs.Unpad.{unpadPacket, unpadded};
 use crate::lengths::Lengths;
 use crate::lengths::length_of;
 use crate::lengths::lengths_of;
 use opus_defines::Answer;
 use opus_defines::Refusal;
+use opus_defines::Report;
 use opus_defines::Verdict;
 use opus_header::Form;
 use opus_header::Sums;
@@ -89,7 +90,7 @@ fn pad_frames(data: &mut [u8], toc: u8, ns: &[u16], first: usize, new_len: usize
 // The packet in the first `len` bytes, padded to more.
 pub fn pad_packet(data: &mut [u8], len: usize, new_len: usize) -> Answer
     requires { ⌜ (len < «new_len») × («new_len» ≤ length (now «data»)) × («new_len» ≤ 65535) ⌝ }
-    ensures number { λ r. ⌜ numberOf r ≡ leaves (now («data» .entry)) (padPacket (take len (now («data» .entry))) «new_len») .number ⌝ }
+    ensures answer { λ r. ⌜ r ≡ answered (padPacket (take len (now («data» .entry))) «new_len») ⌝ }
     ensures bytes { λ _. ⌜ now («data» .exit) ≡ leaves (now («data» .entry)) (padPacket (take len (now («data» .entry))) «new_len») .bytes ⌝ }
 {
     let mut lengths = [0u16; 48];
@@ -105,7 +106,7 @@ pub fn pad_packet(data: &mut [u8], len: usize, new_len: usize) -> Answer
 }
 
 fn pad_answer(data: &mut [u8], len: i32, new_len: i32) -> Answer
-    ensures number { λ r. ⌜ numberOf r ≡ padded (now («data» .entry)) len «new_len» .number ⌝ }
+    ensures report { λ r. ⌜ reportOf r ≡ padded (now («data» .entry)) len «new_len» .report ⌝ }
     ensures bytes { λ _. ⌜ now («data» .exit) ≡ padded (now («data» .entry)) len «new_len» .bytes ⌝ }
 {
     let l = lengths_of(data, len, new_len);
@@ -117,11 +118,11 @@ fn pad_answer(data: &mut [u8], len: i32, new_len: i32) -> Answer
 }
 
 // Pads the packet in the first `len` bytes of the buffer to `new_len`, and answers 0.
-pub fn opus_packet_pad(data: &mut [u8], len: i32, new_len: i32) -> i32
-    ensures number { λ r. ⌜ r ≡ padded (now («data» .entry)) len «new_len» .number ⌝ }
+pub fn opus_packet_pad(data: &mut [u8], len: i32, new_len: i32) -> Report
+    ensures report { λ r. ⌜ r ≡ padded (now («data» .entry)) len «new_len» .report ⌝ }
     ensures bytes { λ _. ⌜ now («data» .exit) ≡ padded (now («data» .entry)) len «new_len» .bytes ⌝ }
 {
-    opus_defines::number_of(pad_answer(data, len, new_len))
+    opus_defines::report_of(pad_answer(data, len, new_len))
 }
 
 // Frames of lengths `ns` at place `first` become the compact packet, whose header is no longer than what stands in front of them.
@@ -147,7 +148,7 @@ pub fn compact_frames(
 // The packet in the first `len` bytes, without padding and in compact form.
 fn unpad_packet(data: &mut [u8], len: usize) -> Answer
     requires { ⌜ (len ≤ length (now «data»)) × (len ≤ 65535) ⌝ }
-    ensures number { λ r. ⌜ numberOf r ≡ leaves (now («data» .entry)) (unpadPacket (take len (now («data» .entry)))) .number ⌝ }
+    ensures report { λ r. ⌜ reportOf r ≡ leaves (now («data» .entry)) (unpadPacket (take len (now («data» .entry)))) .report ⌝ }
     ensures bytes { λ _. ⌜ now («data» .exit) ≡ leaves (now («data» .entry)) (unpadPacket (take len (now («data» .entry)))) .bytes ⌝ }
 {
     let mut lengths = [0u16; 48];
@@ -163,7 +164,7 @@ fn unpad_packet(data: &mut [u8], len: usize) -> Answer
 }
 
 fn unpad_answer(data: &mut [u8], len: i32) -> Answer
-    ensures number { λ r. ⌜ numberOf r ≡ unpadded (now («data» .entry)) len .number ⌝ }
+    ensures report { λ r. ⌜ reportOf r ≡ unpadded (now («data» .entry)) len .report ⌝ }
     ensures bytes { λ _. ⌜ now («data» .exit) ≡ unpadded (now («data» .entry)) len .bytes ⌝ }
 {
     let n = length_of(data, len);
@@ -174,9 +175,9 @@ fn unpad_answer(data: &mut [u8], len: i32) -> Answer
 }
 
 // Strips the padding of the packet in the first `len` bytes of the buffer, and answers the compact packet's bytes.
-pub fn opus_packet_unpad(data: &mut [u8], len: i32) -> i32
-    ensures number { λ r. ⌜ r ≡ unpadded (now («data» .entry)) len .number ⌝ }
+pub fn opus_packet_unpad(data: &mut [u8], len: i32) -> Report
+    ensures report { λ r. ⌜ r ≡ unpadded (now («data» .entry)) len .report ⌝ }
     ensures bytes { λ _. ⌜ now («data» .exit) ≡ unpadded (now («data» .entry)) len .bytes ⌝ }
 {
-    opus_defines::number_of(unpad_answer(data, len))
+    opus_defines::report_of(unpad_answer(data, len))
 }

@@ -3,19 +3,21 @@
 --     with-few, with-timed, with-room       those held and the new ones last at most 120 ms, so they are at most 48 and fit the store
 --     refused-head, more-..                 what an add answers beside the lengths
 --     head-few, Joins, joins, block-stays   frames of lengths ns beside those of a head and its lengths, by a test g of whether they go together
+--     stays-..                              what 001 asks before it reads
 --     block-.., add-..                      an add by each of its tests
 --     Ends, ends, refused-same              the two ways in which an add ends
 -- Assumes nothing.
-use Prim.Native.Nat.{ℕ, _+_, _*_, _≤_, _<_}
+use Prim.Native.Nat.{ℕ, zero, suc, _+_, _*_, _≤_, _<_}
 use native.Mathlib.Nat.{zero-add}
 use native.Mathlib.Omega.{arith}
 use mathlib.Core.Path.{_≡_, refl, sym, _∙_}
-use mathlib.Core.List.{List, []}
-use mathlib.Core.Bool.{Bool, true, false, not}
+use mathlib.Core.List.{List, [], _∷_}
+use mathlib.Core.Bool.{Bool, true, false, not, cond}
 use lib.Dec.{ltb, leb, eqb}
-use lib.ListN.{length}
+use lib.ListN.{length, getD}
 use lib.Seq.{sets}
 use borrow.Author.Tests.{eqb-true, eqb-false, lt-ltb, le-ltb, eq-eqb, ne-eqb, not-true, not-false}
+use Rattle.laws.specs.Bytes.{Bytes}
 use Rattle.laws.proofs.Never.{never, by-test}
 use Rattle.laws.proofs.Every.{both-right}
 use Rattle.opus_defines.specs.declared.Refusal.{Refusal}
@@ -23,21 +25,24 @@ use Rattle.opus_defines.specs.declared.Refusal.the-variants.{BadArg, InvalidPac
 use Rattle.opus_defines.specs.declared.Verdict.the-variants.{Accepted, Refused}
 use Rattle.opus_size.specs.Size.{mostBytes}
 use Rattle.opus_toc.specs.declared.Samples8k.{Samples8k}
-use Rattle.opus_toc.specs.Toc.{upperSix, configuration, samples}
+use Rattle.opus_toc.specs.Toc.{code, upperSix, configuration, samples}
+use Rattle.opus_toc.specs.Answers.{countByte, framesByCode, nbFrames}
 use Rattle.opus_format.specs.Frames.{total, longest}
 use Rattle.opus_format.specs.Format.{Lasts}
 use Rattle.opus_defines.specs.Rules.{ruleRefusal}
 use Rattle.opus_defines.specs.declared.Rule.{Rule}
-use Rattle.opus_format.specs.Reading.{Reading, refused, accepted, read}
-use Rattle.opus_format.proofs.Counts.{lasts-few}
+use Rattle.opus_format.specs.Reading.{lasts, Reading, refused, accepted, read}
+use Rattle.opus_format.proofs.Counts.{lasts-few, lasts-passes}
+use Rattle.opus_format.proofs.Facts.{facts, said}
+use Rattle.opus_format.proofs.Sound.{read-spelled}
 use Rattle.blocks.specs.Blocks.{copied}
 use Rattle.repacketizer.specs.declared.OpusRepacketizer.{OpusRepacketizer}
 use Rattle.repacketizer.specs.declared.Head.{Head}
 use Rattle.repacketizer.specs.declared.AddedHead.{AddedHead}
 use Rattle.repacketizer.specs.Collector.{heldLengths, leastStore, sound}
-use Rattle.repacketizer.specs.Adding.{Adding, noAdd, goesWith, withFrames, readAdds, adds, addBlock, addPacket, added}
+use Rattle.repacketizer.specs.Adding.{Adding, noAdd, goesWith, apart, saidFrames, staysOut, withFrames, readAdds, adds, addPacket, added}
 use Rattle.repacketizer.specs.Adding.{Addition, refusal, takes, leavesAdd}
-use Rattle.repacketizer.specs.Parts.{collectorOf, refusedHead, moreFrames, addedOf}
+use Rattle.repacketizer.specs.Parts.{collectorOf, refusedHead, moreFrames, addBlock, whyNot, addedOf}
 use Rattle.opus_format.proofs.Lengths.{total-most}
 use Rattle.repacketizer.proofs.Held.{holding}
 use Rattle.repacketizer.proofs.Sound.{Timed, timed-lasts, lasts-timed, none-sound, sound-full}
@@ -100,6 +105,83 @@ module _ (h : Head) (count : ℕ) (e : count ≡ h .«nb_frames») where
 pub refused-as : {a : Adding} {e : Refusal} {h : Head} {len store : List ℕ} {r : AddedHead} → a ≡ noAdd e (collectorOf h len) store
     → (r ≡ refusedHead e h) × (r .count < 65536) → (addedOf r len ≡ a .answer) × ((store ≡ a .store) × (r .count < 65536))
 refused-as p q = (rw (p, q .0), (rw p, q .1))
+
+-- ---- what 001 asks before it reads
+pub stays-empty : (rp : OpusRepacketizer) (p : List ℕ) → rp .«nb_frames» ≡ 0 → staysOut rp p ≡ false
+unfolding staysOut
+stays-empty rp [] e = refl
+stays-empty rp (toc ∷ s) e = rw (eq-eqb (rp .«nb_frames») 0 e)
+
+-- of a packet that can be read it is whether its frames go with those held
+apart-lasting : (rp : OpusRepacketizer) (toc n : ℕ) → lasts (upperSix toc) n ≡ true → apart rp toc n ≡ cond (goesWith rp toc n) false true
+apart-lasting rp toc n l =
+    by-test (goesWith rp toc n) (λ g. rw g)
+    (λ g. by-test (eqb (upperSix toc) (upperSix (rp .toc))) (λ s. rw (g, s, l)) (λ s. rw (g, s)))
+
+pub stays-read : (sd : Bool) (rp : OpusRepacketizer) (p : List ℕ) (toc : ℕ) (ns : List ℕ) (first end : ℕ) → Bytes p
+    → read sd p ≡ accepted toc ns first end → staysOut rp p ≡ cond (goesWith rp toc (length ns)) false true
+unfolding staysOut
+stays-read sd rp [] toc ns first end bytes r = absurd (let f = facts sd [] toc ns first end bytes r in omega (arith, f .headed, f .block, f .within))
+stays-read sd rp (a ∷ s) toc ns first end bytes r =
+    let f = facts sd (a ∷ s) toc ns first end bytes r in
+    let is : toc ≡ a = read-spelled sd (a ∷ s) toc ns first end bytes r .toc-is in
+    rw (said sd (a ∷ s) toc ns first end bytes r, ← is) (apart-lasting rp toc (length ns) (lasts-passes (f .lasts)))
+
+-- it says less than 64 frames
+pub said-few : (p : List ℕ) → saidFrames (nbFrames p) < 64
+unfolding nbFrames
+said-few [] = omega arith
+said-few (toc ∷ s) = go (code toc) s
+  where
+    counted : (s : List ℕ) → saidFrames (countByte s) < 64
+    counted [] = omega arith
+    counted (b ∷ s) = omega arith
+
+    go : (c : ℕ) (s : List ℕ) → saidFrames (framesByCode c s) < 64
+    go zero s = omega arith
+    go (suc zero) s = omega arith
+    go (suc (suc zero)) s = omega arith
+    go (suc (suc (suc c))) s = counted s
+
+-- whatever the lengths held
+stays-lengths : (h : Head) (l m p : List ℕ) → staysOut (collectorOf h l) p ≡ staysOut (collectorOf h m) p
+unfolding staysOut
+stays-lengths h l m [] = refl
+stays-lengths h l m (toc ∷ s) = refl
+
+-- so a refusal is what the code finds without them
+pub why-refused : (h : Head) (len p store : List ℕ) (e : Refusal) {x : Refusal} {a : Adding} → x ≡ whyNot (collectorOf h []) p e
+    → a ≡ noAdd (whyNot (collectorOf h len) p e) (collectorOf h len) store → a ≡ noAdd x (collectorOf h len) store
+why-refused h len p store e q g = rw q (rw (stays-lengths h [] len p) g)
+
+-- a packet that is said to have n frames, by the tests of the code
+module _ (rp : OpusRepacketizer) (p : List ℕ) where
+  pub stays-none : length p ≡ 0 → false ≡ staysOut rp p
+  unfolding staysOut
+  stays-none e = go p e
+    where
+      go : (p : List ℕ) → length p ≡ 0 → false ≡ staysOut rp p
+      go [] e = refl
+      go (a ∷ s) e = absurd (omega arith)
+
+  module _ (h : length p ≡ 0 → ⊥) (n : ℕ) (e : n ≡ saidFrames (nbFrames p)) where
+    stays-is : staysOut rp p ≡ apart rp (getD p 0 0) n
+    unfolding staysOut
+    stays-is = rw e (go p h)
+      where
+        go : (p : List ℕ) → (length p ≡ 0 → ⊥) → staysOut rp p ≡ apart rp (getD p 0 0) (saidFrames (nbFrames p))
+        go [] h = absurd (h refl)
+        go (a ∷ s) h = refl
+
+    pub stays-goes : goesWith rp (getD p 0 0) n ≡ true → false ≡ staysOut rp p
+    stays-goes g = rw (stays-is, g)
+
+    module _ (g : goesWith rp (getD p 0 0) n ≡ false) where
+      pub stays-other : (upperSix (getD p 0 0) ≡ upperSix (rp .toc) → ⊥) → true ≡ staysOut rp p
+      stays-other d = rw (stays-is, g, ne-eqb (upperSix (getD p 0 0)) (upperSix (rp .toc)) d)
+
+      pub stays-lasting : upperSix (getD p 0 0) ≡ upperSix (rp .toc) → {b : Bool} → b ≡ lasts (upperSix (getD p 0 0)) n → b ≡ staysOut rp p
+      stays-lasting d q = q ∙ sym (rw (stays-is, g, eq-eqb (upperSix (getD p 0 0)) (upperSix (rp .toc)) d))
 
 -- ---- an add by its tests
 -- frames that are added
@@ -171,48 +253,57 @@ module _ (sd : Bool) (rp : OpusRepacketizer) (p store : List ℕ) where
   unfolding addPacket
   add-long h = rw (lt-ltb 65535 (length p) h)
 
-  pub add-refused : (rule : Rule) → length p ≤ 65535 → read sd p ≡ refused rule → addPacket sd rp p store ≡ noAdd (ruleRefusal rule) rp store
-  unfolding addPacket
-  add-refused rule h r = rw (le-ltb 65535 (length p) h, r)
+  pub add-out : sound rp ≡ true → leastStore ≤ length store → length p ≤ 65535 → staysOut rp p ≡ true → added sd rp p store
+      ≡ noAdd InvalidPacket rp store
+  unfolding added
+  add-out s h k o = rw (s, le-ltb (length store) leastStore h, le-ltb 65535 (length p) k, o)
 
-  pub add-read : (toc : ℕ) (ns : List ℕ) (first end : ℕ) → length p ≤ 65535 → read sd p ≡ accepted toc ns first end
+  pub add-refused : (rule : Rule) (place : ℕ) → length p ≤ 65535 → read sd p ≡ refused rule place
+      → addPacket sd rp p store ≡ noAdd (whyNot rp p (ruleRefusal rule place)) rp store
+  unfolding addPacket
+  add-refused rule place h r = rw (le-ltb 65535 (length p) h, r) (by-test (staysOut rp p) (λ t. rw t) (λ t. rw t))
+
+  pub add-read : (toc : ℕ) (ns : List ℕ) (first end : ℕ) → Bytes p → length p ≤ 65535 → read sd p ≡ accepted toc ns first end
       → addPacket sd rp p store ≡ addBlock rp toc ns p first store
   unfolding addPacket addBlock
-  add-read toc ns first end h r = rw (le-ltb 65535 (length p) h, r)
+  add-read toc ns first end bytes h r =
+      rw (le-ltb 65535 (length p) h, stays-read sd rp p toc ns first end bytes r, r)
+      (by-test (goesWith rp toc (length ns)) (λ g. rw g) (λ g. rw g))
 
   -- an empty collector takes what the reader accepts
   pub add-empty : (toc : ℕ) (ns : List ℕ) (first end : ℕ) → rp .«nb_frames» ≡ 0 → leastStore ≤ length store → length p ≤ 65535
       → read sd p ≡ accepted toc ns first end → added sd rp p store ≡ taken rp toc ns p first store
+  unfolding addPacket
   add-empty toc ns first end e h k r =
-      add-sound (none-sound rp e) h
-      ∙ (add-read toc ns first end k r ∙ block-added rp toc ns p first store (sym (goes-none rp toc (length ns) e)))
+      add-sound (none-sound rp e) h ∙ rw (le-ltb 65535 (length p) k, stays-empty rp p e, r)
 
 -- ---- how an add ends
 -- one that takes frames has read them, and they go with those held
 pub record Took (sd : Bool) (rp : OpusRepacketizer) (p : List ℕ) (toc : ℕ) (ns : List ℕ) (first : ℕ) : Type 0 where
   pub end : ℕ
   pub reads : read sd p ≡ accepted toc ns first end
-  pub goes : goesWith rp toc (length ns) ≡ true
+  pub stays : staysOut rp p ≡ false
 
-pub took : (sd : Bool) (rp : OpusRepacketizer) (p : List ℕ) (bytes toc : ℕ) (ns : List ℕ) (first : ℕ) → adds sd rp p bytes ≡ takes toc ns first
+pub took : (sd : Bool) (rp : OpusRepacketizer) (p : List ℕ) (room toc : ℕ) (ns : List ℕ) (first : ℕ) → adds sd rp p room ≡ takes toc ns first
     → Took sd rp p toc ns first
-took sd rp p bytes toc ns first e =
+took sd rp p room toc ns first e =
     by-test (sound rp)
-    (λ s. by-test (ltb bytes leastStore) (λ h. never (let q = rw (s, h) at e in cc))
-    (λ h. by-test (ltb 65535 (length p)) (λ k. never (let q = rw (s, h, k) at e in cc)) (λ k. go (read sd p) refl (rw (s, h, k) at e))))
+    (λ s. by-test (ltb room leastStore) (λ h. never (let q = rw (s, h) at e in cc))
+    (λ h. by-test (ltb 65535 (length p)) (λ k. never (let q = rw (s, h, k) at e in cc))
+    (λ k. by-test (staysOut rp p) (λ o. never (let q = rw (s, h, k, o) at e in cc)) (λ o. go o (read sd p) refl (rw (s, h, k, o) at e)))))
     (λ s. never (let q = rw s at e in cc))
   where
-    go : (x : Reading) → read sd p ≡ x → readAdds rp x ≡ takes toc ns first → Took sd rp p toc ns first
-    go (refused rule) q e = never (cc)
-    go (accepted toc′ ns′ first′ end) q e =
-        by-test (goesWith rp toc′ (length ns′))
-        (λ g.
-        let f = rw g at e in
+    go : staysOut rp p ≡ false → (x : Reading) → read sd p ≡ x → readAdds x ≡ takes toc ns first → Took sd rp p toc ns first
+    go o (refused rule place) q e = never (cc)
+    go o (accepted toc′ ns′ first′ end) q e =
         let same : accepted toc′ ns′ first′ end ≡ accepted toc ns first end = cc in
-        let lengths-are : ns′ ≡ ns = cc in
-        let toc-is : toc′ ≡ toc = cc in
-        record { end = end; reads = q ∙ same; goes = rw (← lengths-are, ← toc-is) g })
-        (λ g. never (let f = rw g at e in cc))
+        record { end = end; reads = q ∙ same; stays = o }
+
+pub took-goes : {sd : Bool} {rp : OpusRepacketizer} {p : List ℕ} {toc : ℕ} {ns : List ℕ} {first : ℕ} → Bytes p → Took sd rp p toc ns first
+    → goesWith rp toc (length ns) ≡ true
+took-goes {sd} {rp} {p} {toc} {ns} {first} bytes t =
+    by-test (goesWith rp toc (length ns)) (λ g. g)
+    (λ g. never (let f = rw g at (sym (t .stays) ∙ stays-read sd rp p toc ns first (t .end) bytes (t .reads)) in cc))
 
 -- a refused add changes nothing
 pub refused-keeps : (rp : OpusRepacketizer) (p store : List ℕ) (x : Addition) {e : Refusal} → leavesAdd rp p store x .answer .verdict ≡ Refused e

@@ -8,5 +8,6 @@ pub mod Adds
 pub mod Kept
 pub mod Steps
 pub mod Runs
+pub mod Naming
 pub mod Promises
 pub mod Examples

@@ -15,6 +15,7 @@ use Rattle.opus.proofs.Parsed.{Read, parsed-accepted, parsed-refused}
 use Rattle.opus.proofs.Lent.{packetWith, lent-accepted}
 use Rattle.repacketizer.specs.declared.OpusRepacketizer.{OpusRepacketizer}
 use Rattle.repacketizer.specs.Adding.{noAdd, addPacket}
+use Rattle.repacketizer.specs.Parts.{whyNot}
 use Rattle.repacketizer.proofs.Adds.{add-refused}
 
 module _ (sd : Bool) (p : List ℕ) (h : PacketHead) (l : List ℕ) (e : answerOf h l ≡ parsed sd p) where
@@ -22,7 +23,7 @@ module _ (sd : Bool) (p : List ℕ) (h : PacketHead) (l : List ℕ) (e : answerO
   lent-read v = parsed-accepted sd p (packetWith h l) (lent-accepted sd p h l e v) v
 
   pub lent-refused : length p ≤ 65535 → {c : Refusal} → h .verdict ≡ Refused c → (rp : OpusRepacketizer) (store : List ℕ)
-      → addPacket sd rp p store ≡ noAdd c rp store
+      → addPacket sd rp p store ≡ noAdd (whyNot rp p c) rp store
   lent-refused k {c} v rp store =
       let r = parsed-refused sd p (answerOf h l) e c v k in
-      add-refused sd rp p store (r .0) k (r .2) ∙ ap (λ (x : Refusal). noAdd x rp store) (sym (r .1))
+      add-refused sd rp p store (r .0) (r .1) k (r .3) ∙ ap (λ (x : Refusal). noAdd (whyNot rp p x) rp store) (sym (r .2))

@@ -9,8 +9,9 @@ use mathlib.Core.Logic.{_⊎_}
 use lib.Dec.{leb}
 use lib.IntN.{ℤ, pos, negsuc}
 use lib.ListN.{length, getD}
-use Rattle.laws.proofs.Never.{never}
-use Rattle.opus_defines.specs.Numbers.{verdictNumber}
+use Rattle.laws.specs.Bytes.{Bytes}
+use Rattle.laws.proofs.Never.{never, by-test}
+use Rattle.opus_defines.specs.Numbers.{plain, verdictReport}
 use Rattle.opus_defines.specs.declared.Rule.{Rule}
 use Rattle.opus_defines.specs.declared.Verdict.{Verdict}
 use Rattle.opus_defines.specs.declared.Verdict.the-variants.{Accepted, Refused}
@@ -19,12 +20,14 @@ use Rattle.opus_toc.specs.Toc.{upperSix, configuration, samples, time}
 use Rattle.opus_toc.proofs.Samples.{lasts-at}
 use Rattle.opus_format.specs.Frames.{total}
 use Rattle.opus_format.specs.Reading.{refused, accepted, read}
+use Rattle.opus.specs.Named.{Named}
 use Rattle.repacketizer.specs.declared.OpusRepacketizer.{OpusRepacketizer}
-use Rattle.repacketizer.specs.Collector.{heldLengths, held, sound}
-use Rattle.repacketizer.specs.Adding.{goesWith, adds, added, addedNumber}
+use Rattle.repacketizer.specs.Collector.{heldLengths, held, leastStore, sound}
+use Rattle.repacketizer.specs.Adding.{goesWith, staysOut, adds, added, addedReport, addedNumber}
 use Rattle.repacketizer.specs.Runs.{State, Ready, Empty, Arrival, AllBytes, SameSix, afterAdds, framesAccepted}
 use Rattle.repacketizer.proofs.Adds.{block-refused, block-added, add-empty, refused-keeps}
-use Rattle.repacketizer.proofs.Adds.{add-unsound, add-tight, add-sound, add-long, add-refused, add-read}
+use Rattle.repacketizer.proofs.Naming.{add-named}
+use Rattle.repacketizer.proofs.Adds.{add-out, add-unsound, add-tight, add-sound, add-long, add-refused, add-read}
 use Rattle.repacketizer.proofs.Kept.{add-took, first-sets, later-keeps, lengths-stay, bytes-stay}
 use Rattle.repacketizer.proofs.Runs.{empty-ready, empty-held, runs-ready, runs-held, runs-six}
 
@@ -62,7 +65,7 @@ pub refused-add-changes-nothing : (sd : Bool) (rp : OpusRepacketizer) (p store :
 unfolding added
 refused-add-changes-nothing sd rp p store n r = go (added sd rp p store .answer .verdict) refl r
   where
-    go : (v : Verdict) → added sd rp p store .answer .verdict ≡ v → verdictNumber (pos 0) v ≡ negsuc n
+    go : (v : Verdict) → added sd rp p store .answer .verdict ≡ v → verdictReport 0 v .number ≡ negsuc n
         → (added sd rp p store .answer .rp ≡ rp) × (added sd rp p store .store ≡ store)
     go Accepted e r = never (cc)
     go (Refused c) e r = refused-keeps rp p store (adds sd rp p (length store)) e
@@ -87,18 +90,20 @@ module _ (sd : Bool) (rp : OpusRepacketizer) (p store : List ℕ) where
       add-then-length h = rw (add-sound sd rp p store soundly roomy, add-long sd rp p store h)
 
       -- then a packet that cannot be read, -4,
-      pub add-then-packet : (rule : Rule) → length p ≤ 65535 → read sd p ≡ refused rule → number ≡ negsuc 3
-      add-then-packet rule h r = rw (add-sound sd rp p store soundly roomy, add-refused sd rp p store rule h r) (rule-number rule)
+      pub add-then-packet : (rule : Rule) (place : ℕ) → length p ≤ 65535 → read sd p ≡ refused rule place → number ≡ negsuc 3
+      add-then-packet rule place h r =
+          rw (add-sound sd rp p store soundly roomy, add-refused sd rp p store rule place h r)
+          (by-test (staysOut rp p) (λ t. rw t) (λ t. rw t (rule-number rule place)))
 
       -- then frames that do not go with those held, -4; and there is no other refusal.
-      module _ (toc : ℕ) (ns : List ℕ) (first end : ℕ) (h : length p ≤ 65535) (r : read sd p ≡ accepted toc ns first end) where
+      module _ (bytes : Bytes p) (toc : ℕ) (ns : List ℕ) (first end : ℕ) (h : length p ≤ 65535) (r : read sd p ≡ accepted toc ns first end) where
         pub add-then-held : goesWith rp toc (length ns) ≡ false → number ≡ negsuc 3
         add-then-held g =
-            rw (add-sound sd rp p store soundly roomy, add-read sd rp p store toc ns first end h r, block-refused rp toc ns p first store g)
+            rw (add-sound sd rp p store soundly roomy, add-read sd rp p store toc ns first end bytes h r, block-refused rp toc ns p first store g)
 
         pub add-otherwise-takes : goesWith rp toc (length ns) ≡ true → number ≡ pos 0
         add-otherwise-takes g =
-            rw (add-sound sd rp p store soundly roomy, add-read sd rp p store toc ns first end h r, block-added rp toc ns p first store g)
+            rw (add-sound sd rp p store soundly roomy, add-read sd rp p store toc ns first end bytes h r, block-added rp toc ns p first store g)
 
 -- 9. What an accepted add does beside its frames: it counts them; the first packet sets the TOC byte and the frame size, at 8 kHz, and later ones
 -- keep both; no length but those of its frames changes, and no byte of the store but those that it copies.
@@ -122,3 +127,12 @@ module _ (sd : Bool) (rp : OpusRepacketizer) (p store : List ℕ) (toc : ℕ) (n
   pub other-bytes-stay : (k : ℕ) → (k < total (heldLengths rp)) ⊎ (total (heldLengths rp) + total ns ≤ k)
       → getD (added sd rp p store .store) k 0 ≡ getD store k 0
   other-bytes-stay k o = rw (add-took sd rp p store toc ns first end r v) (bytes-stay store (total (heldLengths rp)) p first (total ns) k o)
+
+-- M-100. Rule and place are those of the reader's refusal of the packet, and 0 in every other answer: also where the packet does not go with the frames
+-- held, whatever else is wrong with it.
+pub add-names : (sd : Bool) (rp : OpusRepacketizer) (p store : List ℕ) → Named p (addedReport (added sd rp p store .answer))
+add-names = add-named
+
+pub apart-names-nothing : (sd : Bool) (rp : OpusRepacketizer) (p store : List ℕ) → sound rp ≡ true → leastStore ≤ length store → length p ≤ 65535
+    → staysOut rp p ≡ true → addedReport (added sd rp p store .answer) ≡ plain (negsuc 3)
+apart-names-nothing sd rp p store soundly roomy short out = rw (add-out sd rp p store soundly roomy short out)

@@ -33,7 +33,7 @@ use Rattle.opus_format.proofs.Lengths.{longest-append}
 use Rattle.repacketizer.proofs.Lengths.{take-sets-at, cut-copied}
 use Rattle.repacketizer.proofs.Sound.{full-sound}
 use Rattle.repacketizer.proofs.Held.{Holding, holding}
-use Rattle.repacketizer.proofs.Adds.{with-few, with-timed, with-room, taken, took}
+use Rattle.repacketizer.proofs.Adds.{with-few, with-timed, with-room, taken, took, took-goes}
 
 -- the collector and the store that an add leaves
 abbrev stateOf : Adding → State
@@ -85,7 +85,7 @@ add-ready s a r b = go (adds (a .sd) (s .rp) (a .packet) (length (s .store))) re
     go (refusal e) h = r
     go (takes toc ns first) h =
         let t = took (a .sd) (s .rp) (a .packet) (length (s .store)) toc ns first h in
-        taken-ready (a .sd) s (a .packet) r b toc ns first (t .end) (t .reads) (t .goes)
+        taken-ready (a .sd) s (a .packet) r b toc ns first (t .end) (t .reads) (took-goes b t)
 
 pub add-held : (s : State) (a : Arrival) → Ready s → Bytes (a .packet)
     → held (afterAdd s a .rp) (afterAdd s a .store) ≡ held (s .rp) (s .store) ++ framesAdded s a
@@ -99,7 +99,7 @@ add-held s a r b = go (adds (a .sd) (s .rp) (a .packet) (length (s .store))) ref
     go (refusal e) h = sym (append-nil (held (s .rp) (s .store)))
     go (takes toc ns first) h =
         let t = took (a .sd) (s .rp) (a .packet) (length (s .store)) toc ns first h in
-        taken-held (a .sd) s (a .packet) r b toc ns first (t .end) (t .reads) (t .goes)
+        taken-held (a .sd) s (a .packet) r b toc ns first (t .end) (t .reads) (took-goes b t)
 
 -- the store stays bytes
 pub add-bytes : (s : State) (a : Arrival) → Bytes (s .store) → Bytes (a .packet) → Bytes (afterAdd s a .store)
@@ -135,6 +135,6 @@ add-six s a b = go (adds (a .sd) (s .rp) (a .packet) (length (s .store))) refl
         record {
           is = λ v. by-test (eqb (s .rp .«nb_frames») 0)
               (λ e. (rw (e, ← first-is), omega (arith, some)))
-              (λ e. (rw (e, ← first-is) (same-six (s .rp) toc (length ns) (eqb-false (s .rp .«nb_frames») 0 e) (t .goes)), omega (arith, some)));
+              (λ e. (rw (e, ← first-is) (same-six (s .rp) toc (length ns) (eqb-false (s .rp .«nb_frames») 0 e) (took-goes b t)), omega (arith, some)));
           stays = λ z. (rw (ne-eqb (s .rp .«nb_frames») 0 (λ m. omega (arith, z, m))), omega (arith, some));
         }

@@ -1,20 +1,24 @@
 -- What an add answers, and what it leaves in the store (document 01, 'Collecting and writing'; the order of refusals under 'Return numbers').
 use Prim.Native.Nat.{ℕ, _+_, _*_}
-use mathlib.Core.List.{List}
-use mathlib.Core.Bool.{Bool, cond, _&&_, _||_}
+use mathlib.Core.List.{List, [], _∷_}
+use mathlib.Core.Bool.{Bool, true, false, cond, _&&_, _||_}
 use lib.Dec.{ltb, leb, eqb}
-use lib.IntN.{ℤ, pos}
+use lib.IntN.{ℤ}
 use lib.ListN.{length}
 use lib.Seq.{sets}
 use Rattle.opus_defines.specs.Bounds.{mostPacket}
-use Rattle.opus_defines.specs.Numbers.{verdictNumber}
+use Rattle.opus_defines.specs.Numbers.{verdictReport}
+use Rattle.opus_defines.specs.declared.Report.{Report}
 use Rattle.opus_defines.specs.Rules.{ruleRefusal}
 use Rattle.opus_defines.specs.declared.Refusal.{Refusal}
 use Rattle.opus_defines.specs.declared.Refusal.the-variants.{BadArg, InvalidPacket, InvalidState}
 use Rattle.opus_defines.specs.declared.Verdict.the-variants.{Accepted, Refused}
+use Rattle.opus_defines.specs.declared.Answer.{Answer}
+use Rattle.opus_defines.specs.declared.Answer.the-variants.{Number, Refused as Said}
 use Rattle.opus_toc.specs.Toc.{upperSix, configuration, samples}
+use Rattle.opus_toc.specs.Answers.{nbFrames}
 use Rattle.opus_format.specs.Frames.{total}
-use Rattle.opus_format.specs.Reading.{Reading, refused, accepted, read}
+use Rattle.opus_format.specs.Reading.{lasts, Reading, refused, accepted, read}
 use Rattle.blocks.specs.Blocks.{copied}
 use Rattle.repacketizer.specs.declared.OpusRepacketizer.{OpusRepacketizer}
 use Rattle.repacketizer.specs.declared.Added.{Added}
@@ -25,9 +29,12 @@ pub record Adding : Type 0 where
   pub answer : Added
   pub store : List ℕ
 
--- the number that the crate returns: 0, or the refusal's
+-- 0, or the refusal's number with rule and place; the number is the crate's
+abbrev pub addedReport : Added → Report
+addedReport r = verdictReport 0 (r .verdict)
+
 abbrev pub addedNumber : Added → ℤ
-addedNumber r = verdictNumber (pos 0) (r .verdict)
+addedNumber r = addedReport r .number
 
 -- a refusal hands the collector back as it was, and leaves every byte of the store
 abbrev pub refusedAdd : Refusal → OpusRepacketizer → Added
@@ -67,23 +74,33 @@ leavesAdd rp p store (takes toc ns first) =
       store = copied store (total (heldLengths rp)) p first (total ns);
     }
 
-abbrev pub blockAdds : OpusRepacketizer → ℕ → List ℕ → ℕ → Addition
-blockAdds rp toc ns first = cond (goesWith rp toc (length ns)) (takes toc ns first) (refusal InvalidPacket)
+-- 001 asks before it reads: whether the n frames that the first bytes of a packet say do not go with those held, though they last at most 120 ms by
+-- themselves or have other upper six TOC bits. A packet that lasts too long by itself is the reader's to refuse (R5).
+abbrev pub apart : OpusRepacketizer → ℕ → ℕ → Bool
+apart rp toc n =
+    cond (goesWith rp toc n) false (cond (eqb (upperSix toc) (upperSix (rp .toc))) (lasts (upperSix toc) n) true)
 
-abbrev pub readAdds : OpusRepacketizer → Reading → Addition
-readAdds rp (refused rule) = refusal (ruleRefusal rule)
-readAdds rp (accepted toc ns first taken) = blockAdds rp toc ns first
+-- the frames that were said, 0 where the count byte is missing
+abbrev pub saidFrames : Answer → ℕ
+saidFrames (Number n) = n
+saidFrames (Said e) = 0
 
--- a packet over 65,535 bytes is refused before it is read
+-- an empty packet says nothing
+unfoldable pub staysOut : OpusRepacketizer → List ℕ → Bool
+staysOut rp [] = false
+staysOut rp (toc ∷ s) = apart rp toc (saidFrames (nbFrames (toc ∷ s)))
+
+abbrev pub readAdds : Reading → Addition
+readAdds (refused rule place) = refusal (ruleRefusal rule place)
+readAdds (accepted toc ns first taken) = takes toc ns first
+
+-- a packet over 65,535 bytes is refused before it is looked at
 abbrev pub packetAdds : Bool → OpusRepacketizer → List ℕ → Addition
-packetAdds sd rp p = cond (ltb mostPacket (length p)) (refusal BadArg) (readAdds rp (read sd p))
+packetAdds sd rp p = cond (ltb mostPacket (length p)) (refusal BadArg) (cond (staysOut rp p) (refusal InvalidPacket) (readAdds (read sd p)))
 
 -- an unsound collector, then a store of too few bytes
 abbrev pub adds : Bool → OpusRepacketizer → List ℕ → ℕ → Addition
 adds sd rp p bytes = cond (sound rp) (cond (ltb bytes leastStore) (refusal BadArg) (packetAdds sd rp p)) (refusal InvalidState)
-
-unfoldable pub addBlock : OpusRepacketizer → ℕ → List ℕ → List ℕ → ℕ → List ℕ → Adding
-addBlock rp toc ns p first store = leavesAdd rp p store (blockAdds rp toc ns first)
 
 unfoldable pub addPacket : Bool → OpusRepacketizer → List ℕ → List ℕ → Adding
 addPacket sd rp p store = leavesAdd rp p store (packetAdds sd rp p)

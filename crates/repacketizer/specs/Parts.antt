@@ -3,7 +3,9 @@ use Prim.Native.Nat.{ℕ, _+_, _%_}
 use mathlib.Core.List.{List}
 use mathlib.Core.Bool.{cond}
 use lib.Dec.{eqb}
+use lib.ListN.{length}
 use Rattle.opus_defines.specs.declared.Refusal.{Refusal}
+use Rattle.opus_defines.specs.declared.Refusal.the-variants.{InvalidPacket}
 use Rattle.opus_defines.specs.declared.Verdict.the-variants.{Accepted, Refused}
 use Rattle.opus_toc.specs.Toc.{configuration, samples}
 use Rattle.opus_format.specs.Frames.{total, longest}
@@ -14,6 +16,7 @@ use Rattle.repacketizer.specs.declared.Head.{Head}
 use Rattle.repacketizer.specs.declared.Checked.{Checked}
 use Rattle.repacketizer.specs.declared.AddedHead.{AddedHead}
 use Rattle.repacketizer.specs.Collector.{heldLengths, sound}
+use Rattle.repacketizer.specs.Adding.{Adding, goesWith, staysOut, refusal, takes, leavesAdd}
 
 -- one pass over lengths
 abbrev pub measured : List ℕ → Measured
@@ -42,6 +45,14 @@ moreFrames h toc n =
       framesize = cond (eqb (h .«nb_frames») 0) (record { 0 = samples 8000 (configuration toc) }) (h .framesize);
       count = h .«nb_frames» + n;
     }
+
+-- frames of a packet that was read: they go with those held, or are refused
+unfoldable pub addBlock : OpusRepacketizer → ℕ → List ℕ → List ℕ → ℕ → List ℕ → Adding
+addBlock rp toc ns p first store = leavesAdd rp p store (cond (goesWith rp toc (length ns)) (takes toc ns first) (refusal InvalidPacket))
+
+-- why a packet that cannot be read is refused
+abbrev pub whyNot : OpusRepacketizer → List ℕ → Refusal → Refusal
+whyNot rp p e = cond (staysOut rp p) InvalidPacket e
 
 -- the answer is what is said beside the lengths, and the lengths that are left
 abbrev pub addedOf : AddedHead → List ℕ → Added

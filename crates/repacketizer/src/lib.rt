@@ -7,10 +7,13 @@ ghost use lib.ListN.{length};
 ghost use lib.Seq.{sets};
 ghost use Rattle.opus_defines.specs.Numbers.{numberOf};
 ghost use Rattle.opus_size.specs.Size.{mostBytes};
+ghost use Rattle.opus_toc.specs.Toc.{upperSix};
+ghost use Rattle.opus_toc.specs.Answers.{nbFrames};
+ghost use Rattle.opus_format.specs.Reading.{lasts};
 ghost use Rattle.opus_format.specs.Frames.{total, longest};
 ghost use Rattle.repacketizer.specs.Collector.{empty, heldLengths, sound, nbFramesHeld, leastStore};
-ghost use Rattle.repacketizer.specs.Adding.{goesWith, addBlock, addPacket, added};
-ghost use Rattle.repacketizer.specs.Parts.{measured, headOf, collectorOf, checked, refusedHead, moreFrames, addedOf};
+ghost use Rattle.repacketizer.specs.Adding.{goesWith, saidFrames, staysOut, addPacket, added};
+ghost use Rattle.repacketizer.specs.Parts.{measured, headOf, collectorOf, checked, refusedHead, moreFrames, addBlock, whyNot, addedOf};
 use opus::Short;
 use opus_defines::Answer;
 use opus_defines::Refusal;
@@ -177,7 +180,7 @@ pub fn opus_repacketizer_get_nb_frames(rp: OpusRepacketizer) -> i32
 
 // Whether n frames with this TOC byte go with those held, whatever the lengths.
 fn goes_with(h: Head, toc: u8, n: u16) -> bool
-    requires { ⌜ (h .«nb_frames» ≤ 48) × (n ≤ 48) ⌝ }
+    requires { ⌜ (h .«nb_frames» ≤ 48) × (n < 64) ⌝ }
     ensures { λ r. ⌜ r ≡ goesWith (collectorOf h []) toc n ⌝ }
 {
     let count = h.nb_frames;
@@ -189,6 +192,59 @@ fn goes_with(h: Head, toc: u8, n: u16) -> bool
     }
     let framesize = h.framesize;
     framesize.fits(count + n)
+}
+
+// Whether n frames with this TOC byte last at most 120 ms, by themselves.
+fn lasting(toc: u8, n: u16) -> bool
+    requires { ⌜ n < 64 ⌝ }
+    ensures { λ r. ⌜ r ≡ lasts (upperSix toc) n ⌝ }
+{
+    if n == 0 {
+        return false;
+    }
+    let each = opus_toc::samples_48k(toc);
+    each.fits(n)
+}
+
+// The frames that the first bytes of a packet say.
+fn said_frames(data: &[u8]) -> u16
+    ensures { λ r. ⌜ (r ≡ saidFrames (nbFrames (now («data» .entry)))) × (r < 64) ⌝ }
+{
+    let a = opus_toc::nb_frames(data);
+    match a {
+        Answer::Number(n) => n,
+        Answer::Refused(_) => 0,
+    }
+}
+
+// Whether a packet does not go with the frames held, by its first bytes.
+fn stays_out(h: Head, data: &[u8]) -> bool
+    requires { ⌜ h .«nb_frames» ≤ 48 ⌝ }
+    ensures { λ r. ⌜ r ≡ staysOut (collectorOf h []) (now («data» .entry)) ⌝ }
+{
+    if data.len() == 0 {
+        return false;
+    }
+    let toc = data[0];
+    let n = said_frames(data);
+    if goes_with(h, toc, n) {
+        return false;
+    }
+    if h.toc / 4 != toc / 4 {
+        return true;
+    }
+    lasting(toc, n)
+}
+
+// Why a packet that cannot be read is refused: 001 asks first whether it goes with the frames held. For refused packets alone.
+fn why_not(h: Head, data: &[u8], e: Refusal) -> Refusal
+    requires { ⌜ h .«nb_frames» ≤ 48 ⌝ }
+    ensures { λ r. ⌜ r ≡ whyNot (collectorOf h []) (now («data» .entry)) e ⌝ }
+{
+    if stays_out(h, data) {
+        return Refusal::InvalidPacket;
+    }
+    e
 }
 
 // The lengths of `ns` into `len` from a place on. The first one stands alone: most packets have one frame, and the loop becomes a call.
@@ -364,7 +420,7 @@ fn add_read(
         let first = p.first;
         return add_block(h, len, at, p.toc, &lengths[..n], data, first, store);
     };
-    refused_add(e, h)
+    refused_add(why_not(h, data, e), h)
 }
 
 // Adds a packet to a sound collector: an ordinary one of code 0, 1 or 2 without an array for its lengths.
@@ -394,7 +450,9 @@ fn add_packet(
     match s {
         Short::One(n, first) => add_one(h, len, at, data[0], n, data, first, store),
         Short::Two(m, n, first) => add_two(h, len, at, data[0], m, n, data, first, store),
-        Short::Broken(rule) => refused_add(opus_defines::rule_refusal(rule), h),
+        Short::Broken(rule, place) => {
+            refused_add(why_not(h, data, opus_defines::rule_refusal(rule, place)), h)
+        }
         Short::Counted => add_read(h, len, at, data, false, store),
     }
 }

@@ -110,7 +110,7 @@ module _ (sd : Bool) (six : ℕ) (k : six < 64) {s : State} {done : List (List �
       let r = h .ready in
       let first = length (spells .head) in
       add-sound sd (s .rp) p (s .store) (r .soundly) (r .roomy)
-      ∙ (add-read sd (s .rp) p (s .store) toc ns first (length p) (compact-short sd six piece (lasts-few brief) (f .small)) reads
+      ∙ (add-read sd (s .rp) p (s .store) toc ns first (length p) bytes (compact-short sd six piece (lasts-few brief) (f .small)) reads
       ∙ block-added (s .rp) toc ns p first (s .store) goes)
 
   -- the first packet sets the TOC byte, a later one has the same six bits

@@ -21,7 +21,6 @@ use borrow.Author.Tests.{ltb-true, ltb-false, lt-ltb, le-ltb, le-leb, lt-leb}
 use Rattle.laws.proofs.Never.{never, by-test, cond-elim}
 use Rattle.opus_defines.specs.Numbers.{refusalNumber, countOf}
 use Rattle.opus_defines.specs.Outcome.{Outcome, leaves, refuses, writes}
-use Rattle.opus_defines.proofs.Outcomes.{meets}
 use Rattle.opus_defines.specs.declared.Refusal.{Refusal}
 use Rattle.opus_defines.specs.declared.Refusal.the-variants.{BadArg, BufferTooSmall, InvalidState}
 use Rattle.opus_defines.specs.declared.Count.the-variants.{Negative}
@@ -37,8 +36,13 @@ use Rattle.repacketizer.proofs.Held.{Holding}
 use Rattle.repacketizer_out.specs.Output.{range, outPacket, output, outFrames, outRange}
 use Rattle.repacketizer_out.proofs.Ranges.{part-of, length-held}
 
+-- the two parts of an answer that is a number alone
+pub meets : {o q : Outcome} {n : ℤ} {s : List ℕ} → o ≡ q → n ≡ q .report .number → s ≡ q .bytes → (n ≡ o .report .number)
+    × (s ≡ o .bytes)
+meets e a b = rw e (a, b)
+
 -- a refusal, as the code leaves it
-pub refused-as : (e : Refusal) {o : Outcome} {dst : List ℕ} → o ≡ refuses e dst → (refusalNumber e ≡ o .number) × (dst ≡ o .bytes)
+pub refused-as : (e : Refusal) {o : Outcome} {dst : List ℕ} → o ≡ refuses e dst → (refusalNumber e ≡ o .report .number) × (dst ≡ o .bytes)
 refused-as e p = meets p refl refl
 
 -- ---- the collector, the store and the destination
@@ -144,18 +148,18 @@ module _ (sd pad : Bool) (six : ℕ) (frames : List (List ℕ)) (dst : List ℕ)
   output-written h = rw (le-ltb (length dst) (length (compact sd six frames)) h)
 
   -- refused for room exactly where the destination is shorter than the compact packet
-  pub output-exactly : (leaves dst (output sd pad six frames (length dst)) .number ≡ negsuc 1 → length dst < length (compact sd six frames))
-      × (length dst < length (compact sd six frames) → leaves dst (output sd pad six frames (length dst)) .number ≡ negsuc 1)
+  pub output-exactly : (leaves dst (output sd pad six frames (length dst)) .report .number ≡ negsuc 1 → length dst < length (compact sd six frames))
+      × (length dst < length (compact sd six frames) → leaves dst (output sd pad six frames (length dst)) .report .number ≡ negsuc 1)
   output-exactly = (
     λ e. by-test (ltb (length dst) (length (compact sd six frames))) (ltb-true (length dst) (length (compact sd six frames)))
-        (λ t. never (let w = output-written (ltb-false (length dst) (length (compact sd six frames)) t) in cc)),
+        (λ t. never (let f = rw (output-written (ltb-false (length dst) (length (compact sd six frames)) t)) at e in cc)),
     λ h. rw (output-refused h),
   )
 
 -- padded output fills the destination
 pub output-fills : (sd : Bool) (six : ℕ) (frames : List (List ℕ)) (dst : List ℕ) → length (compact sd six frames) ≤ length dst
     → (leaves dst (output sd true six frames (length dst)) .bytes ≡ filling sd six frames (length dst))
-    × (leaves dst (output sd true six frames (length dst)) .number ≡ pos (length dst))
+    × (leaves dst (output sd true six frames (length dst)) .report .number ≡ pos (length dst))
 output-fills sd six frames dst h =
     let long = filling-length sd six frames (length dst) h in
     rw (output-written sd true six frames dst h) (sets-whole dst (filling sd six frames (length dst)) long, ap pos long)

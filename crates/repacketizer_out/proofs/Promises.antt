@@ -47,8 +47,8 @@ module _ (s : State) (r : Ready s) (begin end : ℕ) (some : begin < end) (withi
 
   -- 4. Output, padded or not, is refused for room exactly where the destination is shorter than the compact packet,
   pub refused-for-room-exactly : (sd pad : Bool)
-      → (outRange sd pad (s .rp) (s .store) (pos begin) (pos end) dst .number ≡ negsuc 1 → length dst < length (compact sd six frames))
-      × (length dst < length (compact sd six frames) → outRange sd pad (s .rp) (s .store) (pos begin) (pos end) dst .number ≡ negsuc 1)
+      → (outRange sd pad (s .rp) (s .store) (pos begin) (pos end) dst .report .number ≡ negsuc 1 → length dst < length (compact sd six frames))
+      × (length dst < length (compact sd six frames) → outRange sd pad (s .rp) (s .store) (pos begin) (pos end) dst .report .number ≡ negsuc 1)
   refused-for-room-exactly sd pad = rw (range-output sd pad s r begin end some within dst most) (output-exactly sd pad six frames dst)
 
   -- otherwise the unpadded one writes it,
@@ -67,7 +67,7 @@ module _ (s : State) (r : Ready s) (begin end : ℕ) (some : begin < end) (withi
   -- 5. Padded output fills the destination exactly and reads back as those frames too; its padding bytes are zeros.
   pub padded-output-fills : (sd : Bool) → length (compact sd six frames) ≤ length dst
       → (outRange sd true (s .rp) (s .store) (pos begin) (pos end) dst .bytes ≡ filling sd six frames (length dst))
-      × (outRange sd true (s .rp) (s .store) (pos begin) (pos end) dst .number ≡ pos (length dst))
+      × (outRange sd true (s .rp) (s .store) (pos begin) (pos end) dst .report .number ≡ pos (length dst))
   padded-output-fills sd h = rw (range-output sd true s r begin end some within dst most) (output-fills sd six frames dst h)
 
   pub filling-reads-back : (sd : Bool) (m : ℕ)
@@ -86,9 +86,9 @@ module _ (s : State) (r : Ready s) (dst : List ℕ) (most : length dst ≤ 65535
   pub all-is-the-range : outAll (s .rp) (s .store) dst ≡ outRange false false (s .rp) (s .store) (pos 0) (pos (length (held (s .rp) (s .store)))) dst
   all-is-the-range = rw (length-held (s .rp) (s .store) (ready-holding s r))
 
-  pub all-of-none-is-refused : s .rp .«nb_frames» ≡ 0 → outAll (s .rp) (s .store) dst .number ≡ negsuc 0
+  pub all-of-none-is-refused : s .rp .«nb_frames» ≡ 0 → outAll (s .rp) (s .store) dst .report .number ≡ negsuc 0
   all-of-none-is-refused e =
-      ap (λ (o : Outcome). o .number)
+      ap (λ (o : Outcome). o .report .number)
       (out-sound false false (s .rp) (s .store) (pos 0) (pos (s .rp .«nb_frames»)) dst (r .soundly) (r .roomy) most
       ∙ frames-none false false (upperSix (s .rp .toc)) (held (s .rp) (s .store)) dst 0 (s .rp .«nb_frames») (omega (arith, e)))
 
@@ -117,17 +117,17 @@ packing-can-be-undone empty z k l b sd cuts c m again e =
 
 -- 7. A refused output changes nothing.
 pub refused-output-changes-nothing : (sd pad : Bool) (rp : OpusRepacketizer) (store : List ℕ) (begin end : ℤ) (dst : List ℕ) (n : ℕ)
-    → outRange sd pad rp store begin end dst .number ≡ negsuc n → outRange sd pad rp store begin end dst .bytes ≡ dst
+    → outRange sd pad rp store begin end dst .report .number ≡ negsuc n → outRange sd pad rp store begin end dst .bytes ≡ dst
 unfolding outRange
 refused-output-changes-nothing sd pad rp store begin end dst n e = refusal-keeps dst (outputs sd pad rp store begin end (length dst)) n e
 
 -- 8. The order of an output's refusals: each fault gives its number, whatever else is wrong behind it.
 module _ (sd pad : Bool) (rp : OpusRepacketizer) (store : List ℕ) (begin end : ℤ) (dst : List ℕ) where
   abbrev number : ℤ
-  number = outRange sd pad rp store begin end dst .number
+  number = outRange sd pad rp store begin end dst .report .number
 
-  answers : {o : Outcome} → outRange sd pad rp store begin end dst ≡ o → number ≡ o .number
-  answers e = ap (λ (o : Outcome). o .number) e
+  answers : {o : Outcome} → outRange sd pad rp store begin end dst ≡ o → number ≡ o .report .number
+  answers e = ap (λ (o : Outcome). o .report .number) e
 
   -- an unsound collector, -6,
   pub output-collector-first : sound rp ≡ false → number ≡ negsuc 5

@@ -64,7 +64,8 @@ module _ (sd pad : Bool) (six : ℕ) (ns store : List ℕ) (from : ℕ) (dst : L
         asks ∙ (compact-bytes sd six ns m measured ∙ sym size)
 
     pub put-refused : length dst < need
-        → (negsuc 1 ≡ leaves dst (output sd pad six frames (length dst)) .number) × (dst ≡ leaves dst (output sd pad six frames (length dst)) .bytes)
+        → (negsuc 1 ≡ leaves dst (output sd pad six frames (length dst)) .report .number)
+        × (dst ≡ leaves dst (output sd pad six frames (length dst)) .bytes)
     put-refused h = refused-as BufferTooSmall (output-refused sd pad six frames dst (omega (arith, need-is)))
 
     module _ (fits : need ≤ length dst) {form : Form} (chosen : form ≡ formFor (length ns) need (length dst) pad) where
@@ -101,7 +102,8 @@ module _ (sd pad : Bool) (six : ℕ) (ns store : List ℕ) (from : ℕ) (dst : L
       module _ {d : List ℕ} {end : ℕ} (put : d ≡ sets dst 0 (head ++ part store from (total ns))) (ends : end ≡ length head + total ns) where
         -- the compact packet has no zeros
         pub put-plain : pad ≡ false
-            → let x = leaves dst (output sd pad six frames (length dst)) in (pos end ≡ x .number) × (d ≡ x .bytes)
+            → (pos end ≡ leaves dst (output sd pad six frames (length dst)) .report .number)
+            × (d ≡ leaves dst (output sd pad six frames (length dst)) .bytes)
         put-plain p =
             let form-is = rw p at chosen in
             let none : padBytes (missing form) ≡ 0 = rw (form-is, compact-missing (length ns)) in
@@ -111,7 +113,8 @@ module _ (sd pad : Bool) (six : ℕ) (ns store : List ℕ) (from : ℕ) (dst : L
 
         -- the zeros reach the end of the destination
         pub put-padded : pad ≡ true → {d′ : List ℕ} → d′ ≡ filled d end (length dst - end) 0
-            → let x = leaves dst (output sd pad six frames (length dst)) in (pos (length dst) ≡ x .number) × (d′ ≡ x .bytes)
+            → (pos (length dst) ≡ leaves dst (output sd pad six frames (length dst)) .report .number)
+            × (d′ ≡ leaves dst (output sd pad six frames (length dst)) .bytes)
         put-padded p {d′} f =
             let behind : end ≡ length (head ++ part store from (total ns)) =
             ends

@@ -44,7 +44,7 @@ Room sd six frames begin (c ∷ more) =
 
 -- what a call left in front of its buffer: as many bytes as its number says
 abbrev pub front : Outcome → List ℕ
-front o = go (o .number)
+front o = go (o .report .number)
   where
     go : ℤ → List ℕ
     go (pos n) = take n (o .bytes)

@@ -65,7 +65,8 @@ fn put_frames(
     requires block { ⌜ (from + total (now ns) ≤ length (now store)) × (length (now «data») ≤ 65535) ⌝ }
     ensures number { λ r. ⌜ numberOf r
         ≡ leaves (now («data» .entry))
-        (output «self_delimited» pad (upperSix toc) (cut (now (ns .entry)) (drop from (now (store .entry)))) (length (now («data» .entry)))) .number ⌝ }
+        (output «self_delimited» pad (upperSix toc) (cut (now (ns .entry)) (drop from (now (store .entry)))) (length (now («data» .entry))))
+        .report .number ⌝ }
     ensures bytes { λ _. ⌜ now («data» .exit)
         ≡ leaves (now («data» .entry))
         (output «self_delimited» pad (upperSix toc) (cut (now (ns .entry)) (drop from (now (store .entry)))) (length (now («data» .entry)))) .bytes ⌝ }
@@ -101,7 +102,7 @@ fn out_frames(
     ensures number { λ r. ⌜ numberOf r
         ≡ leaves (now («data» .entry))
         (outFrames «self_delimited» pad (upperSix (h .toc)) (held (collectorOf h (now (len .entry))) (now (store .entry))) (pos begin) (pos end)
-        (length (now («data» .entry)))) .number ⌝ }
+        (length (now («data» .entry)))) .report .number ⌝ }
     ensures bytes { λ _. ⌜ now («data» .exit)
         ≡ leaves (now («data» .entry))
         (outFrames «self_delimited» pad (upperSix (h .toc)) (held (collectorOf h (now (len .entry))) (now (store .entry))) (pos begin) (pos end)
@@ -138,7 +139,7 @@ fn out_answer(
     pad: bool,
 ) -> Answer
     ensures number { λ r. ⌜ numberOf r
-        ≡ outRange «self_delimited» pad (collectorOf h (now (len .entry))) (now (store .entry)) begin end (now («data» .entry)) .number ⌝ }
+        ≡ outRange «self_delimited» pad (collectorOf h (now (len .entry))) (now (store .entry)) begin end (now («data» .entry)) .report .number ⌝ }
     ensures bytes { λ _. ⌜ now («data» .exit)
         ≡ outRange «self_delimited» pad (collectorOf h (now (len .entry))) (now (store .entry)) begin end (now («data» .entry)) .bytes ⌝ }
 {
@@ -173,7 +174,7 @@ pub fn out_lent(
     pad: bool,
 ) -> i32
     ensures number { λ r. ⌜ r
-        ≡ outRange «self_delimited» pad (collectorOf h (now (len .entry))) (now (store .entry)) begin end (now («data» .entry)) .number ⌝ }
+        ≡ outRange «self_delimited» pad (collectorOf h (now (len .entry))) (now (store .entry)) begin end (now («data» .entry)) .report .number ⌝ }
     ensures bytes { λ _. ⌜ now («data» .exit)
         ≡ outRange «self_delimited» pad (collectorOf h (now (len .entry))) (now (store .entry)) begin end (now («data» .entry)) .bytes ⌝ }
 {
@@ -190,7 +191,7 @@ pub fn opus_repacketizer_out_range_impl(
     self_delimited: bool,
     pad: bool,
 ) -> i32
-    ensures number { λ r. ⌜ r ≡ outRange «self_delimited» pad rp (now (store .entry)) begin end (now («data» .entry)) .number ⌝ }
+    ensures number { λ r. ⌜ r ≡ outRange «self_delimited» pad rp (now (store .entry)) begin end (now («data» .entry)) .report .number ⌝ }
     ensures bytes { λ _. ⌜ now («data» .exit) ≡ outRange «self_delimited» pad rp (now (store .entry)) begin end (now («data» .entry)) .bytes ⌝ }
 {
     let h = repacketizer::head_of(rp);
@@ -206,7 +207,7 @@ pub fn opus_repacketizer_out_range(
     end: i32,
     data: &mut [u8],
 ) -> i32
-    ensures number { λ r. ⌜ r ≡ outRange false false rp (now (store .entry)) begin end (now («data» .entry)) .number ⌝ }
+    ensures number { λ r. ⌜ r ≡ outRange false false rp (now (store .entry)) begin end (now («data» .entry)) .report .number ⌝ }
     ensures bytes { λ _. ⌜ now («data» .exit) ≡ outRange false false rp (now (store .entry)) begin end (now («data» .entry)) .bytes ⌝ }
 {
     opus_repacketizer_out_range_impl(rp, store, begin, end, data, false, false)
@@ -214,7 +215,7 @@ pub fn opus_repacketizer_out_range(
 
 // All frames held.
 pub fn opus_repacketizer_out(rp: OpusRepacketizer, store: &[u8], data: &mut [u8]) -> i32
-    ensures number { λ r. ⌜ r ≡ outAll rp (now (store .entry)) (now («data» .entry)) .number ⌝ }
+    ensures number { λ r. ⌜ r ≡ outAll rp (now (store .entry)) (now («data» .entry)) .report .number ⌝ }
     ensures bytes { λ _. ⌜ now («data» .exit) ≡ outAll rp (now (store .entry)) (now («data» .entry)) .bytes ⌝ }
 {
     opus_repacketizer_out_range_impl(rp, store, 0, rp.nb_frames as i32, data, false, false)

@@ -2,6 +2,7 @@
 // The buffers have a fixed size, however long the input is. A line is built in the output buffer, which has room for the longest, so that a
 // case that turns out to be cut short can take back what it has put there.
 use replay_collector::collect_case;
+use replay_collector::places_case;
 use replay_in_place::in_place_case;
 use replay_io::input::ByteAt;
 use replay_io::input::Cursor;
@@ -26,7 +27,8 @@ fn case(
 ) -> Line {
     match kind {
         2 => collect_case(input, c, work, store, out, at),
-        3..=6 => in_place_case(input, c, work, out, at, kind),
+        17 => places_case(input, c, work, store, out, at),
+        3..=6 | 13..=16 => in_place_case(input, c, work, out, at, kind),
         _ => reading_case(input, c, work, out, at, kind),
     }
 }
@@ -105,7 +107,7 @@ fn replay(input: &mut [u8], work: &mut [u8], store: &mut [u8], out: &mut [u8]) -
 fn main() {
     let mut input = [0u8; 65536];
     let mut work = [0u8; 65536];
-    let mut store = [0u8; 61200];
+    let mut store = [0u8; 65536];
     let mut out = [0u8; 262144];
     let n = replay(&mut input, &mut work, &mut store, &mut out);
     written(&out, n);

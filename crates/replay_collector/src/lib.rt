@@ -1,4 +1,9 @@
-// Kind 2 of the replay protocol: an empty collector, adds, and an output.
+// Kinds 2 and 17 of the replay protocol: an empty collector, adds, and an output; any collector, and adds with rule and place.
+mod state;
+
+use crate::state::State;
+use crate::state::collector_and_store;
+use crate::state::state_at;
 use opus_defines::Verdict;
 use repacketizer::OpusRepacketizer;
 use replay_io::input::ByteAt;
@@ -13,7 +18,7 @@ use replay_io::input::signed;
 use replay_io::output::buffer;
 use replay_io::output::number;
 use replay_io::output::put;
-use replay_io::output::refusal;
+use replay_io::output::report;
 use replay_io::output::text;
 use replay_io::room::unset;
 
@@ -96,6 +101,9 @@ struct Adding {
     came: usize,
     out: usize,
     rp: OpusRepacketizer,
+    // The store's bytes, and whether rule and place are told.
+    store: usize,
+    places: bool,
 }
 
 fn no_more(s: Adding) -> Adding {
@@ -104,12 +112,14 @@ fn no_more(s: Adding) -> Adding {
     t
 }
 
-// The number of an add, and a space.
-fn verdict(out: &mut [u8], at: usize, v: Verdict) -> usize {
-    let Verdict::Refused(e) = v else {
-        return text(out, at, b"0 ");
-    };
-    let next = refusal(out, at, e);
+// The number of an add, or number, rule and place, and a space.
+fn verdict(out: &mut [u8], at: usize, v: Verdict, places: bool) -> usize {
+    let r = opus_defines::verdict_report(opus_defines::OPUS_OK, v);
+    if places {
+        let told = report(out, at, r);
+        return put(out, told, b' ');
+    }
+    let next = number(out, at, r.number);
     put(out, next, b' ')
 }
 
@@ -117,8 +127,12 @@ fn added(work: &[u8], n: usize, store: &mut [u8], out: &mut [u8], s: Adding, c: 
     if work.len() < n {
         return no_more(s);
     }
+    let size = s.store;
+    if store.len() < size {
+        return no_more(s);
+    }
     let rp = s.rp;
-    let a = repacketizer::opus_repacketizer_cat(rp, &work[0..n], store);
+    let a = repacketizer::opus_repacketizer_cat(rp, &work[0..n], &mut store[0..size]);
     let v = a.verdict;
     let held = a.rp;
     Adding {
@@ -126,8 +140,10 @@ fn added(work: &[u8], n: usize, store: &mut [u8], out: &mut [u8], s: Adding, c: 
         next: c.at,
         end: c.end,
         came: c.came,
-        out: verdict(out, s.out, v),
+        out: verdict(out, s.out, v, s.places),
         rp: held,
+        store: size,
+        places: s.places,
     }
 }
 
@@ -208,6 +224,8 @@ fn started(c: Cursor, at: usize) -> Adding {
         came: c.came,
         out: at,
         rp: repacketizer::opus_repacketizer_init(),
+        store: repacketizer::LEAST_STORE,
+        places: false,
     }
 }
 
@@ -248,4 +266,60 @@ pub fn collect_case(
         return Line::Malformed;
     };
     add_case(input, d, work, store, out, at, o)
+}
+
+// ---- kind 17
+
+fn started_at(at: usize, s: State) -> Adding {
+    let rp = s.rp;
+    Adding {
+        whole: true,
+        next: s.next,
+        end: s.end,
+        came: s.came,
+        out: at,
+        rp,
+        store: s.store,
+        places: true,
+    }
+}
+
+// The case behind its collector.
+fn adds_told(
+    input: &mut [u8],
+    work: &mut [u8],
+    store: &mut [u8],
+    out: &mut [u8],
+    start: Adding,
+    n: u8,
+) -> Line {
+    let t = add_all(input, work, store, out, start, n);
+    if !t.whole {
+        return Line::Malformed;
+    }
+    let rp = t.rp;
+    let next = collector_and_store(out, t.out, rp, store, t.store);
+    Line::Is(
+        Cursor {
+            at: t.next,
+            end: t.end,
+            came: t.came,
+        },
+        next,
+    )
+}
+
+pub fn places_case(
+    input: &mut [u8],
+    c: Cursor,
+    work: &mut [u8],
+    store: &mut [u8],
+    out: &mut [u8],
+    at: usize,
+) -> Line {
+    let s = state_at(input, c, store);
+    if !s.whole {
+        return Line::Malformed;
+    }
+    adds_told(input, work, store, out, started_at(at, s), s.adds)
 }

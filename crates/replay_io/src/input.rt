@@ -20,7 +20,7 @@ pub enum ByteAt {
     Cut,
 }
 
-enum TwoAt {
+pub enum TwoAt {
     Is(u16, Cursor),
     Cut,
 }
@@ -121,7 +121,7 @@ fn joined(low: u8, high: u8) -> u16 {
 }
 
 // Two bytes, low byte first.
-fn two(input: &mut [u8], c: Cursor) -> TwoAt {
+pub fn two(input: &mut [u8], c: Cursor) -> TwoAt {
     let ByteAt::Is(low, d) = byte(input, c) else {
         return TwoAt::Cut;
     };

@@ -1,7 +1,8 @@
 // Text put into the output buffer: each function answers the next place in `out`.
 use opus_defines::Refusal;
+use opus_defines::Report;
 
-// The output is written once it holds so many bytes. A line has fewer than 132,000.
+// The output is written once it holds so many bytes. A line has fewer than 136,000.
 const FULL: usize = 65536;
 
 pub fn put(out: &mut [u8], at: usize, b: u8) -> usize {
@@ -37,6 +38,33 @@ pub fn number(out: &mut [u8], at: usize, n: i32) -> usize {
 
 pub fn refusal(out: &mut [u8], at: usize, e: Refusal) -> usize {
     number(out, at, opus_defines::refusal_number(e))
+}
+
+// A number behind a space.
+pub fn spaced(out: &mut [u8], at: usize, n: u16) -> usize {
+    let next = put(out, at, b' ');
+    decimal(out, next, n as usize)
+}
+
+// Number, rule and place.
+pub fn report(out: &mut [u8], at: usize, r: Report) -> usize {
+    let a = number(out, at, r.number);
+    let b = spaced(out, a, r.rule);
+    spaced(out, b, r.place)
+}
+
+// The first lengths, each behind a space.
+pub fn sizes(out: &mut [u8], at: usize, lengths: &[u16; 48], count: usize) -> usize {
+    let mut next = at;
+    let mut i: usize = 0;
+    while i < 48 {
+        if count <= i {
+            return next;
+        }
+        next = spaced(out, next, lengths[i]);
+        i += 1;
+    }
+    next
 }
 
 fn digit(d: u8) -> u8 {
@@ -77,6 +105,12 @@ pub fn buffer(out: &mut [u8], at: usize, s: &[u8], n: usize) -> usize {
 
 pub fn number_and_buffer(out: &mut [u8], at: usize, n: i32, s: &[u8], length: usize) -> usize {
     let a = number(out, at, n);
+    let b = put(out, a, b' ');
+    buffer(out, b, s, length)
+}
+
+pub fn report_and_buffer(out: &mut [u8], at: usize, r: Report, s: &[u8], length: usize) -> usize {
+    let a = report(out, at, r);
     let b = put(out, a, b' ');
     buffer(out, b, s, length)
 }

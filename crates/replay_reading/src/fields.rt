@@ -1,5 +1,5 @@
-// Kinds 7 to 10: length fields, the frame count and samples.
-use crate::reader::one_size;
+// Kinds 7 to 10 and 12: length fields, the frame count and samples.
+use crate::reader::reported;
 use opus_defines::Verdict;
 use replay_io::input::ByteAt;
 use replay_io::input::Cursor;
@@ -13,6 +13,8 @@ use replay_io::output::decimal;
 use replay_io::output::number;
 use replay_io::output::number_and_buffer;
 use replay_io::output::refusal;
+use replay_io::output::report;
+use replay_io::output::spaced;
 use replay_io::room::unset;
 
 fn encode(work: &mut [u8], size: usize, room: usize) -> i32 {
@@ -48,11 +50,11 @@ fn length_field(out: &mut [u8], at: usize, work: &[u8], n: usize) -> usize {
     if work.len() < n {
         return at;
     }
-    let s = opus_size::parse_size(&work[0..n]);
+    let s = opus_size::parse_size(&work[0..n], 4);
     let v = s.verdict;
     let Verdict::Refused(e) = v else {
         let next = decimal(out, at, s.bytes);
-        return one_size(out, next, s.size);
+        return spaced(out, next, s.size);
     };
     refusal(out, at, e)
 }
@@ -68,6 +70,32 @@ pub fn length_case(
         return Line::Malformed;
     };
     Line::Is(d, length_field(out, at, work, n))
+}
+
+fn length_told(out: &mut [u8], at: usize, work: &[u8], n: usize, rule: u8) -> usize {
+    if work.len() < n {
+        return at;
+    }
+    let s = opus_size::parse_size(&work[0..n], rule as u16);
+    let v = s.verdict;
+    let next = report(out, at, reported(s.bytes, v));
+    spaced(out, next, s.size)
+}
+
+pub fn length_told_case(
+    input: &mut [u8],
+    c: Cursor,
+    work: &mut [u8],
+    out: &mut [u8],
+    at: usize,
+) -> Line {
+    let ByteAt::Is(rule, d) = byte(input, c) else {
+        return Line::Malformed;
+    };
+    let NumberAt::Is(n, e) = bytes(input, d, work) else {
+        return Line::Malformed;
+    };
+    Line::Is(e, length_told(out, at, work, n, rule))
 }
 
 fn frames(work: &[u8], n: usize) -> i32 {

@@ -1,11 +1,13 @@
-// Kinds 1 and 7 to 10 of the replay protocol: the packet reader, length fields and the TOC byte.
+// Kinds 1, 7 to 12 of the replay protocol: the packet reader, length fields and the TOC byte.
 mod fields;
 mod reader;
 
 use crate::fields::encode_case;
 use crate::fields::frames_case;
 use crate::fields::length_case;
+use crate::fields::length_told_case;
 use crate::fields::samples_case;
+use crate::reader::places_case;
 use crate::reader::read_case;
 use replay_io::input::Cursor;
 use replay_io::input::Line;
@@ -24,6 +26,8 @@ pub fn reading_case(
         8 => length_case(input, c, work, out, at),
         9 => frames_case(input, c, work, out, at),
         10 => samples_case(input, c, work, out, at),
+        11 => places_case(input, c, work, out, at),
+        12 => length_told_case(input, c, work, out, at),
         _ => Line::Malformed,
     }
 }

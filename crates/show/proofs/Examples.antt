@@ -6,7 +6,8 @@ use mathlib.Core.List.{List, [], _∷_, map}
 use lib.IntN.{ℤ, pos, negsuc}
 use Rattle.opus_defines.specs.Numbers.{refusalNumber}
 use Rattle.opus_defines.specs.declared.Refusal.{Refusal}
-use Rattle.opus_defines.specs.declared.Refusal.the-variants.{BadArg, BufferTooSmall, InvalidPacket, InvalidState}
+use Rattle.opus_defines.specs.declared.Refusal.the-variants.{BadArg, BufferTooSmall, InvalidPacket, InvalidState, Unreadable, CutShort}
+use Rattle.opus_defines.specs.declared.Rule.the-variants.{R4, R7}
 use Rattle.show.specs.Text.{places, decimal, integer, refusedLabel, refusal}
 
 -- 0, 9, 10, 99, 100 and 5760: no leading zero, and no digit lost
@@ -24,8 +25,9 @@ integers = refl
 abbrev refusedBy : ℕ → List ℕ
 refusedBy digit = 114 ∷ 101 ∷ 102 ∷ 117 ∷ 115 ∷ 101 ∷ 100 ∷ 32 ∷ 45 ∷ digit ∷ 10 ∷ []
 
--- -1, -2, -4 and -6
-pub refusals : map (λ (e : Refusal). refusal (refusalNumber e)) (BadArg ∷ BufferTooSmall ∷ InvalidPacket ∷ InvalidState ∷ [])
-    ≡ refusedBy 49 ∷ refusedBy 50 ∷ refusedBy 52 ∷ refusedBy 54 ∷ []
+-- -1, -2, -4 and -6; rule and place are not told here
+pub refusals : map (λ (e : Refusal). refusal (refusalNumber e))
+    (BadArg ∷ BufferTooSmall ∷ InvalidPacket ∷ InvalidState ∷ Unreadable R7 5 ∷ CutShort R4 ∷ [])
+    ≡ refusedBy 49 ∷ refusedBy 50 ∷ refusedBy 52 ∷ refusedBy 54 ∷ refusedBy 52 ∷ refusedBy 49 ∷ []
 unfolding refusal refusedLabel integer decimal places
 refusals = refl

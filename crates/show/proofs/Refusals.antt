@@ -11,7 +11,7 @@ use mir.Val.{toZ, ofZ, SFits}
 use mir.ValLaws.{toZ-ofZ}
 use Rattle.opus_defines.specs.Numbers.{refusalNumber}
 use Rattle.opus_defines.specs.declared.Refusal.{Refusal}
-use Rattle.opus_defines.specs.declared.Refusal.the-variants.{BadArg, BufferTooSmall, InvalidPacket, InvalidState}
+use Rattle.opus_defines.specs.declared.Refusal.the-variants.{BadArg, BufferTooSmall, InvalidPacket, InvalidState, Unreadable, CutShort}
 use Rattle.show.specs.Text.{decimal, integer, refusedLabel, refusal}
 use Rattle.show.proofs.Laid.{Three, front-room}
 use Rattle.show.proofs.Digits.{decimal-most}
@@ -27,6 +27,8 @@ refusal-passed BadArg = refl
 refusal-passed BufferTooSmall = refl
 refusal-passed InvalidPacket = refl
 refusal-passed InvalidState = refl
+refusal-passed (Unreadable rule place) = refl
+refusal-passed (CutShort rule) = refl
 
 -- a refusal's number has one digit
 negative-most : (n : ℕ) → n < 10 → length (refusedLabel ++ (45 ∷ decimal n ++ (10 ∷ []))) ≤ 11
@@ -39,3 +41,5 @@ refusal-most BadArg = negative-most 1 (omega arith)
 refusal-most BufferTooSmall = negative-most 2 (omega arith)
 refusal-most InvalidPacket = negative-most 4 (omega arith)
 refusal-most InvalidState = negative-most 6 (omega arith)
+refusal-most (Unreadable rule place) = negative-most 4 (omega arith)
+refusal-most (CutShort rule) = negative-most 1 (omega arith)

@@ -1,4 +1,4 @@
--- `listing_text::listing` meets its contract: what was read is listed, or the refusal's number.
+-- `listing_text::listing` meets its contract: what was read is listed, or the refusal's number, rule and place.
 -- Assumes nothing.
 use native.Mathlib.Omega.{arith}
 use mathlib.Core.Path.{sym}
@@ -7,8 +7,7 @@ use mir.Syntax.{w32}
 use mir.Val.{toZ, ofZ}
 use borrow.Author.Needs.{needs}
 use Rattle.opus.proofs.Parsed.{lengthsOf}
-use Rattle.show.specs.Text.{refusal}
-use Rattle.listing_text.specs.Listing.{packetText}
+use Rattle.listing_text.specs.Listing.{packetText, reportLine}
 use Rattle.listing_text.proofs.Answers.{answers, small, Read, listing-read, refused-room, listing-refused}
 use Rattle.listing_text.proofs.listing.Statement.{statement}
 use Rattle.listing_text.proofs.listing.Tie as tie
@@ -16,27 +15,31 @@ use Rattle.listing_text.proofs.listing.Tie as tie
 abbrev entry : tie.After-opus-packet-parse → tie.Start
 entry c = c .before .before .before
 
-put-refused-requires : tie.Need-put-refused-requires
-put-refused-requires c κs =
-    let t = c .before .before in
-    let q = t .before .before in
-    let r = q .opus-packet-parse in
-    let s = entry q in
-    refused-room (r .result) _ (t .enum-told2 .given .1) (c .verdict-number .result) (c .verdict-number .ensures) (s .args .out .now) (s .pre)
-
-returns : tie.Need-returns
-returns c =
-    let p = c .before .before .put-refused in
-    let n = c .before .before .before in
-    let t = n .before .before in
+put-report-requires : tie.Need-put-report-requires
+put-report-requires c κs =
+    let x = c .before .before in
+    let t = x .before in
     let q = t .before .before in
     let r = q .opus-packet-parse in
     let s = entry q in
     let a = s .args in
-    answers (a .out .now) (a .«data» .now) (refusal (toZ w32 (ofZ w32 (n .verdict-number .result))))
-    (listing-refused (r .result) _ (t .enum-told2 .given .1) (n .verdict-number .result) (n .verdict-number .ensures) (a .«data» .now) (r .ensures))
-    (refused-room (r .result) _ (t .enum-told2 .given .1) (n .verdict-number .result) (n .verdict-number .ensures) (a .out .now) (s .pre))
-    (p .ensures .0) (p .ensures .1)
+    refused-room (a .«data» .now) (r .result) (r .ensures) _ (t .enum-told2 .given .1) (x .verdict-report .result) (x .verdict-report .ensures)
+    (a .out .now) (s .pre)
+
+returns : tie.Need-returns
+returns c =
+    let p = c .before .before in
+    let x = p .before .before .before in
+    let t = x .before in
+    let q = t .before .before in
+    let r = q .opus-packet-parse in
+    let s = entry q in
+    let a = s .args in
+    let y = x .verdict-report in
+    answers (a .out .now) (a .«data» .now) (reportLine (toZ w32 (ofZ w32 (y .result .number))) (y .result .rule) (y .result .place))
+    (listing-refused (a .«data» .now) (r .result) (r .ensures) _ (t .enum-told2 .given .1) (y .result) (y .ensures))
+    (refused-room (a .«data» .now) (r .result) (r .ensures) _ (t .enum-told2 .given .1) (y .result) (y .ensures) (a .out .now) (s .pre))
+    (p .put-report .ensures .0) (p .put-report .ensures .1)
 
 -- an accepted packet
 reading : (c : tie.After-enum-told) → let r = c .before .before in Read (entry r .args .«data» .now) (r .opus-packet-parse .result)
@@ -76,7 +79,7 @@ listing-spec =
     (λ c. search needs)
     (λ c. search needs)
     (λ c κs. search needs)
-    put-refused-requires
+    put-report-requires
     (λ c. search needs)
     returns
     array-share-prefix-lengths

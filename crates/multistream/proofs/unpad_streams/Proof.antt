@@ -8,6 +8,7 @@ use lib.ListN.{take, length-take}
 use lib.Seq.{length-take-le}
 use borrow.Author.Needs.{needs}
 use Rattle.laws.proofs.Bytes.{bytes-take}
+use Rattle.opus_defines.specs.Numbers.{plain}
 use Rattle.opus_defines.specs.Outcome.{leaves}
 use Rattle.opus_defines.proofs.Outcomes.{meets}
 use Rattle.multistream.specs.Parts.{verdictBy}
@@ -50,7 +51,7 @@ returns c =
     let p = e .before .before in
     let a = p .before .before .before .args in
     let is = unpad-all (a .streams) (take (a .len) (a .«data» .now)) (sym (p .pass-all .ensures) ∙ ap verdictBy (e .enum-told .given .1)) in
-    meets (ap (leaves (a .«data» .now)) is) (ap pos (r .repack-streams .ensures .1)) (r .repack-streams .ensures .0)
+    meets (ap (leaves (a .«data» .now)) is) (ap (λ n. plain (pos n)) (r .repack-streams .ensures .1)) (r .repack-streams .ensures .0)
 
 returns-2 : tie.Need-returns-2
 returns-2 c =

@@ -21,7 +21,7 @@ returns c =
     let b = c .before .before .before .before in
     let a = entry b .args in
     none-answered _ _ _ (c .broken-head .ensures)
-    ∙ (ap (λ (r : Rule). noPacket (ruleRefusal r)) (c .before .size-rule .ensures)
+    ∙ (ap (λ (r : Rule). noPacket (ruleRefusal r 2)) (c .before .size-rule .ensures)
     ∙ body-unfit (a .self-delimited) (a .«data» .now) (a .count) (sym (b .read-padding .ensures) ∙ c .before .before .enum-told .given .1))
 
 abbrev padded : tie.After-known-told → tie.After-read-padding

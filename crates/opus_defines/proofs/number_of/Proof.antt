@@ -1,25 +1,17 @@
--- `opus_defines::number_of` meets its contract: a `u16` is the number that its bits say, and a refusal's number is handed on.
+-- `opus_defines::number_of` meets its contract: it is the report's.
 -- Assumes nothing.
-use native.Mathlib.Omega.{arith}
+use mathlib.Core.Path.{ap, _∙_}
 use mir.Syntax.{w32}
-use mir.ValLaws.{toZ-pos}
-use borrow.Author.Needs.{needs}
+use mir.ValLaws.{toZ-ofZ}
+use borrow.Author.Needs.{needs, sfits-of}
+use Rattle.opus_defines.specs.declared.Report.{Report}
 use Rattle.opus_defines.proofs.number_of.Statement.{statement}
 use Rattle.opus_defines.proofs.number_of.Tie as tie
 
 returns : tie.Need-returns
-returns c = rw (c .before .a .given .1) (toZ-pos w32 _ (omega (arith, c .known-told .given)))
-
-returns-2 : tie.Need-returns-2
-returns-2 c = rw (c .before .before .a2 .given .1) (search needs)
+returns c =
+    toZ-ofZ w32 (c .before .report-of .result .number) (sfits-of (c .struct-told .given .0 .1))
+    ∙ ap (λ (r : Report). r .number) (c .before .report-of .ensures)
 
 pub number-of-spec : {M : Type 1} → statement M
-number-of-spec =
-    tie.close
-    (tie.spec
-    (λ c. search needs)
-    (λ c. search needs)
-    (λ c. search needs)
-    (λ c κs. search needs)
-    returns
-    returns-2)
+number-of-spec = tie.close (tie.spec (λ c κs. search needs) returns)

@@ -1,18 +1,17 @@
--- `opus_defines::refusal_number` meets its contract: each arm knows its variant.
+-- `opus_defines::refusal_number` meets its contract: it is the report's.
 -- Assumes nothing.
-use borrow.Author.Needs.{needs}
+use mathlib.Core.Path.{ap, _∙_}
+use mir.Syntax.{w32}
+use mir.ValLaws.{toZ-ofZ}
+use borrow.Author.Needs.{needs, sfits-of}
+use Rattle.opus_defines.specs.declared.Report.{Report}
 use Rattle.opus_defines.proofs.refusal_number.Statement.{statement}
 use Rattle.opus_defines.proofs.refusal_number.Tie as tie
 
+returns : tie.Need-returns
+returns c =
+    toZ-ofZ w32 (c .before .refusal-report .result .number) (sfits-of (c .struct-told .given .0 .1))
+    ∙ ap (λ (r : Report). r .number) (c .before .refusal-report .ensures)
+
 pub refusal-number-spec : {M : Type 1} → statement M
-refusal-number-spec =
-    tie.close
-    (tie.spec
-    (λ c. search needs)
-    (λ c. search needs)
-    (λ c. search needs)
-    (λ c. search needs)
-    (λ c. rw (c .enum-told .given .1))
-    (λ c. rw (c .enum-told2 .given .1))
-    (λ c. rw (c .enum-told3 .given .1))
-    (λ c. rw (c .enum-told4 .given .1)))
+refusal-number-spec = tie.close (tie.spec (λ c κs. search needs) returns)

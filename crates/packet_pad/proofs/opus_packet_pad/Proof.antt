@@ -1,9 +1,7 @@
--- `packet_pad::opus_packet_pad` meets its contract: it is the number of what `pad_answer` answers.
+-- `packet_pad::opus_packet_pad` meets its contract: it is the report of what `pad_answer` answers.
 -- Assumes nothing.
 use mathlib.Core.Path.{_≡_, _∙_}
 use borrow.Author.Needs.{needs}
-use mir.Syntax.{w32}
-use mir.Val.{toZ, ofZ}
 use Rattle.opus_defines.proofs.Outcomes.{meets}
 use Rattle.packet_pad.proofs.Calls.{pad-passed}
 use Rattle.packet_pad.proofs.opus_packet_pad.Statement.{statement}
@@ -13,9 +11,8 @@ returns : tie.Need-returns
 returns c =
     let p = c .before .before .before in
     let s = p .before .before .before in
-    let back : toZ w32 (ofZ w32 (c .number-of .result)) ≡ c .number-of .result = search needs in
     meets (pad-passed (s .args .«data» .now) (s .args .len) (s .args .new-len) (s .fits .len) (s .fits .new-len))
-    (back ∙ (c .number-of .ensures ∙ p .pad-answer .ensures .0)) (p .pad-answer .ensures .1)
+    (c .report-of .ensures ∙ p .pad-answer .ensures .0) (p .pad-answer .ensures .1)
 
 pub opus-packet-pad-spec : {M : Type 1} → statement M
 opus-packet-pad-spec = tie.close (tie.spec (λ c κs. search needs) (λ c κs. search needs) (λ c. search needs) returns)

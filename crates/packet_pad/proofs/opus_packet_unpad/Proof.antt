@@ -1,9 +1,7 @@
--- `packet_pad::opus_packet_unpad` meets its contract: it is the number of what `unpad_answer` answers.
+-- `packet_pad::opus_packet_unpad` meets its contract: it is the report of what `unpad_answer` answers.
 -- Assumes nothing.
 use mathlib.Core.Path.{_≡_, _∙_}
 use borrow.Author.Needs.{needs}
-use mir.Syntax.{w32}
-use mir.Val.{toZ, ofZ}
 use Rattle.opus_defines.proofs.Outcomes.{meets}
 use Rattle.packet_pad.proofs.Calls.{unpad-passed}
 use Rattle.packet_pad.proofs.opus_packet_unpad.Statement.{statement}
@@ -13,8 +11,7 @@ returns : tie.Need-returns
 returns c =
     let p = c .before .before .before in
     let s = p .before .before .before in
-    let back : toZ w32 (ofZ w32 (c .number-of .result)) ≡ c .number-of .result = search needs in
-    meets (unpad-passed (s .args .«data» .now) (s .args .len) (s .fits .len)) (back ∙ (c .number-of .ensures ∙ p .unpad-answer .ensures .0))
+    meets (unpad-passed (s .args .«data» .now) (s .args .len) (s .fits .len)) (c .report-of .ensures ∙ p .unpad-answer .ensures .0)
     (p .unpad-answer .ensures .1)
 
 pub opus-packet-unpad-spec : {M : Type 1} → statement M

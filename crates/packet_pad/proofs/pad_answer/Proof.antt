@@ -1,12 +1,15 @@
 -- `packet_pad::pad_answer` meets its contract: by what the two lengths ask for.
 -- Assumes nothing.
-use mathlib.Core.Path.{_≡_, refl}
+use mathlib.Core.Path.{_≡_, refl, ap, _∙_}
+use lib.ListN.{take}
 use borrow.Author.Needs.{needs}
+use Rattle.opus_defines.specs.Numbers.{reportOf}
 use Rattle.opus_defines.proofs.Outcomes.{meets}
 use Rattle.packet_pad.specs.Lengths.{lengthsOf}
+use Rattle.packet_pad.specs.Pad.{padPacket}
 use Rattle.packet_pad.specs.declared.lengths.Lengths.{Lengths}
 use Rattle.packet_pad.proofs.Given.{lengths-told, more-within}
-use Rattle.packet_pad.proofs.Calls.{pad-bad, pad-same, pad-more}
+use Rattle.packet_pad.proofs.Calls.{pad-bad, pad-same, pad-more, report-answered}
 use Rattle.packet_pad.proofs.pad_answer.Statement.{statement}
 use Rattle.packet_pad.proofs.pad_answer.Tie as tie
 
@@ -43,7 +46,10 @@ returns-3 c =
     let l = p .before .before .before in
     let t = l .before .before in
     let a = t .before .before .before .args in
-    meets (pad-more (a .«data» .now) (a .len) (a .new-len) _ _ (told t (l .l .given .1))) (p .pad-packet .ensures .0) (p .pad-packet .ensures .1)
+    let n = l .l .given .0 .0 in
+    let m = l .l .given .0 .1 .0 in
+    meets (pad-more (a .«data» .now) (a .len) (a .new-len) n m (told t (l .l .given .1)))
+    (ap reportOf (p .pad-packet .ensures .0) ∙ report-answered (a .«data» .now) (padPacket (take n (a .«data» .now)) m)) (p .pad-packet .ensures .1)
 
 pub pad-answer-spec : {M : Type 1} → statement M
 pad-answer-spec =

@@ -1,7 +1,7 @@
 -- `packet_pad::pad_packet` meets its contract: the packet is read, and its frames are padded where they stand.
 -- Assumes nothing.
 use native.Mathlib.Omega.{arith}
-use mathlib.Core.Path.{refl, sym, ap}
+use mathlib.Core.Path.{sym, ap, _∙_}
 use mathlib.Core.Bool.{false}
 use lib.Seq.{length-take-le}
 use borrow.Author.Needs.{needs}
@@ -9,8 +9,8 @@ use Rattle.opus_defines.specs.Outcome.{leaves}
 use Rattle.opus.specs.Answers.{answerOf}
 use Rattle.opus.specs.declared.Packet.{Packet}
 use Rattle.opus.proofs.Lent.{packetWith, lent-accepted}
+use Rattle.packet_pad.specs.Pad.{answered}
 use Rattle.packet_pad.proofs.Framed.{Lies, lies}
-use Rattle.opus_defines.proofs.Outcomes.{meets}
 use Rattle.packet_pad.proofs.Calls.{pad-read, pad-refused}
 use Rattle.packet_pad.proofs.pad_packet.Statement.{statement}
 use Rattle.packet_pad.proofs.pad_packet.Tie as tie
@@ -55,7 +55,8 @@ returns c =
     let b = c .before .before in
     let t = b .before .before .before in
     let a = entry (t .before .before) .args in
-    meets (ap (leaves (a .«data» .now)) (pad-read (a .«data» .now) (a .len) (read t) (lying t) (a .new-len))) refl (b .pad-frames .ensures)
+    let is = pad-read (a .«data» .now) (a .len) (read t) (lying t) (a .new-len) in
+    (sym (ap answered is), b .pad-frames .ensures ∙ sym (ap (λ x. leaves (a .«data» .now) x .bytes) is))
 
 returns-2 : tie.Need-returns-2
 returns-2 c =
@@ -63,11 +64,9 @@ returns-2 c =
     let r = p .read-into in
     let s = entry p in
     let a = s .args in
-    meets
-    (ap (leaves (a .«data» .now))
-    (pad-refused (a .«data» .now) (a .len) (answerOf (r .result) (r .last .1 .1 .0)) (r .ensures) _ (c .before .v .given .1) (omega (arith, s .pre))
-    (a .new-len)))
-    refl refl
+    let p = answerOf (r .result) (r .last .1 .1 .0) in
+    let is = pad-refused (a .«data» .now) (a .len) p (r .ensures) _ (c .before .v .given .1) (omega (arith, s .pre)) (a .new-len) in
+    (sym (ap answered is), sym (ap (λ x. leaves (a .«data» .now) x .bytes) is))
 
 pub pad-packet-spec : {M : Type 1} → statement M
 pad-packet-spec =

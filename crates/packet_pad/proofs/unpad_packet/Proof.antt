@@ -6,6 +6,7 @@ use mathlib.Core.Bool.{false}
 use lib.IntN.{pos}
 use lib.Seq.{length-take-le}
 use borrow.Author.Needs.{needs}
+use Rattle.opus_defines.specs.Numbers.{plain}
 use Rattle.opus_defines.specs.Outcome.{leaves}
 use Rattle.opus.specs.Answers.{answerOf}
 use Rattle.opus.specs.declared.Packet.{Packet}
@@ -65,7 +66,8 @@ returns c =
     let t = b .before .before .before in
     let s = entry (t .before .before) in
     let a = s .args in
-    meets (ap (leaves (a .«data» .now)) (unpad-read (a .«data» .now) (a .len) (read t) (lying t))) (ap pos (b .compact-frames .ensures .1))
+    meets (ap (leaves (a .«data» .now)) (unpad-read (a .«data» .now) (a .len) (read t) (lying t)))
+    (ap (λ n. plain (pos n)) (b .compact-frames .ensures .1))
     (b .compact-frames .ensures .0)
 
 returns-2 : tie.Need-returns-2

@@ -22,7 +22,7 @@ entry c = c .before .before .before .before .before
 goes-with-requires : tie.Need-goes-with-requires
 goes-with-requires c κs =
     let s = c .before .before .before .before in
-    (head-few (s .args .h) (s .args .len .now) (byte s) (s .pre .0 .0) (s .pre .0 .1), s .pre .1 .1)
+    (head-few (s .args .h) (s .args .len .now) (byte s) (s .pre .0 .0) (s .pre .0 .1), omega (arith, s .pre .1 .1))
 
 returns : tie.Need-returns
 returns c =

@@ -1,16 +1,17 @@
 -- `repacketizer::add_packet` meets its contract: what was read of one frame or two is added, and any other packet is read whole.
 -- Assumes nothing.
-use mathlib.Core.Path.{sym, ap, _∙_}
+use Prim.Native.Nat.{_≤_}
+use mathlib.Core.Path.{_≡_, ap, _∙_}
 use mathlib.Core.Bool.{false}
 use mathlib.Core.List.{[], _∷_}
 use native.Mathlib.Omega.{arith}
 use borrow.Author.Needs.{needs}
 use Rattle.laws.specs.Bytes.{Bytes}
-use Rattle.opus_defines.specs.declared.Refusal.{Refusal}
+use Rattle.opus_format.specs.Reading.{refused, read}
+use Rattle.opus_format.proofs.Within.{refused-within}
 use Rattle.opus.proofs.AtShort.{ShortRead, one-read, two-read, none-read}
-use Rattle.repacketizer.specs.Adding.{noAdd}
-use Rattle.repacketizer.specs.Parts.{collectorOf}
-use Rattle.repacketizer.proofs.Adds.{add-long, add-refused, add-read, refused-as}
+use Rattle.repacketizer.specs.Parts.{collectorOf, whyNot}
+use Rattle.repacketizer.proofs.Adds.{head-few, add-long, add-refused, add-read, why-refused, refused-as}
 use Rattle.repacketizer.proofs.add_packet.Statement.{statement}
 use Rattle.repacketizer.proofs.add_packet.Tie as tie
 
@@ -63,7 +64,8 @@ returns-3 c =
     let i = k .before in
     let a = entry k .args in
     let rp = collectorOf (a .h) (a .len .now) in
-    rw (i .if2 .left, add-read false rp (a .«data» .now) (a .store .now) _ _ _ (one t .taken) (i .before .if1 .left) (one t .means)) (b .add-one .ensures)
+    rw (i .if2 .left, add-read false rp (a .«data» .now) (a .store .now) _ _ _ (one t .taken) (bytes (known k)) (i .before .if1 .left) (one t .means))
+    (b .add-one .ensures)
 
 two : (c : tie.After-s2)
     → let a = entry (c .before .before) .args in
@@ -91,19 +93,42 @@ returns-4 c =
     let i = k .before in
     let a = entry k .args in
     let rp = collectorOf (a .h) (a .len .now) in
-    rw (i .if2 .left, add-read false rp (a .«data» .now) (a .store .now) _ _ _ (two t .taken) (i .before .if1 .left) (two t .means)) (b .add-two .ensures)
+    rw (i .if2 .left, add-read false rp (a .«data» .now) (a .store .now) _ _ _ (two t .taken) (bytes (known k)) (i .before .if1 .left) (two t .means))
+    (b .add-two .ensures)
+
+-- a packet that breaks a rule
+none : (c : tie.After-s3)
+    → let k = c .before .before in
+    read false (entry k .args .«data» .now) ≡ refused (c .s3 .given .0 .0) (c .s3 .given .0 .1 .0)
+none c =
+    let k = c .before .before in
+    none-read (entry k .args .«data» .now) (bytes (known k)) (k .short-at .result) (k .short-at .ensures) _ _ (c .s3 .given .1)
+
+rule-refusal-requires : tie.Need-rule-refusal-requires
+rule-refusal-requires c κs =
+    let t = c .before in
+    let k = t .before .before in
+    omega (arith, refused-within false (entry k .args .«data» .now) _ _ (none t), k .before .before .if1 .left)
+
+-- the frames held are at most 48
+few : (c : tie.Start) → c .args .h .«nb_frames» ≤ 48
+few c = head-few (c .args .h) (c .args .len .now) (search needs) (c .pre .0) (c .pre .1)
+
+why-not-requires : tie.Need-why-not-requires
+why-not-requires c κs = few (entry (c .before .before .before .before))
 
 returns-5 : tie.Need-returns-5
 returns-5 c =
-    let t = c .before .before .before in
+    let w = c .before in
+    let t = w .before .before .before in
     let k = t .before .before in
     let i = k .before in
     let a = entry k .args in
     let rp = collectorOf (a .h) (a .len .now) in
-    let bad = none-read (a .«data» .now) (bytes (known k)) (k .short-at .result) (k .short-at .ensures) _ (t .s3 .given .1) in
-    let same = ap (λ (x : Refusal). noAdd x rp (a .store .now)) (sym (c .before .rule-refusal .ensures)) in
+    let refused = add-refused false rp (a .«data» .now) (a .store .now) _ _ (i .before .if1 .left) (none t) in
+    let same = w .why-not .ensures ∙ ap (whyNot (collectorOf (a .h) []) (a .«data» .now)) (w .before .rule-refusal .ensures) in
     rw (i .if2 .left)
-    (refused-as (add-refused false rp (a .«data» .now) (a .store .now) _ (i .before .if1 .left) bad ∙ same) (c .refused-add2 .ensures))
+    (refused-as (why-refused (a .h) (a .len .now) (a .«data» .now) (a .store .now) _ same refused) (c .refused-add2 .ensures))
 
 returns-6 : tie.Need-returns-6
 returns-6 c =
@@ -128,7 +153,8 @@ add-packet-spec =
     shared-slice-read-add-two
     add-two-requires
     (λ c. search needs)
-    (λ c κs. search needs)
+    rule-refusal-requires
+    why-not-requires
     (λ c κs. search needs)
     (λ c. search needs)
     (λ c κs. search needs)

@@ -1,5 +1,6 @@
 -- `repacketizer::add_read` meets its contract: the frames that were read are added as one block.
 -- Assumes nothing.
+use Prim.Native.Nat.{_≤_}
 use mathlib.Core.Path.{sym}
 use native.Mathlib.Omega.{arith}
 use borrow.Author.Needs.{needs}
@@ -10,7 +11,7 @@ use Rattle.opus.proofs.Parsed.{Read, lengthsOf}
 use Rattle.opus.proofs.Lent.{packetWith}
 use Rattle.repacketizer.specs.Parts.{collectorOf}
 use Rattle.repacketizer.proofs.Parsed.{lent-read, lent-refused}
-use Rattle.repacketizer.proofs.Adds.{add-read, refused-as}
+use Rattle.repacketizer.proofs.Adds.{head-few, add-read, why-refused, refused-as}
 use Rattle.repacketizer.proofs.add_read.Statement.{statement}
 use Rattle.repacketizer.proofs.add_read.Tie as tie
 
@@ -56,20 +57,28 @@ returns c =
     let a = entry r .args in
     let q = packetWith (r .read-into .result) (r .read-into .last .1 .1 .0) in
     let rp = collectorOf (a .h) (a .len .now) in
-    rw (add-read (a .self-delimited) rp (a .«data» .now) (a .store .now) (q .toc) (lengthsOf q) (q .first) (q .taken) (reading t .short) (reading t .means))
+    rw (add-read (a .self-delimited) rp (a .«data» .now) (a .store .now) (q .toc) (lengthsOf q) (q .first) (q .taken)
+    (record { byte = λ i. known r .shared-slice-known .given i .fits }) (reading t .short) (reading t .means))
     (b .add-block .ensures)
+
+-- the frames held are at most 48
+few : (c : tie.Start) → c .args .h .«nb_frames» ≤ 48
+few c = head-few (c .args .h) (c .args .len .now) (search needs) (c .pre .0 .0) (c .pre .0 .1)
+
+why-not-requires : tie.Need-why-not-requires
+why-not-requires c κs = few (entry (c .before .before .before))
 
 returns-2 : tie.Need-returns-2
 returns-2 c =
-    let v = c .before .before in
+    let v = c .before .before .before in
     let r = v .before .before in
     let s = entry r in
     let a = s .args in
     let lent = r .read-into .last .1 .1 .0 in
     let rp = collectorOf (a .h) (a .len .now) in
-    refused-as
-    (lent-refused (a .self-delimited) (a .«data» .now) (r .read-into .result) lent (r .read-into .ensures) (s .pre .1) (v .v .given .1) rp (a .store .now))
-    (c .refused-add .ensures)
+    let refused =
+    lent-refused (a .self-delimited) (a .«data» .now) (r .read-into .result) lent (r .read-into .ensures) (s .pre .1) (v .v .given .1) rp (a .store .now) in
+    refused-as (why-refused (a .h) (a .len .now) (a .«data» .now) (a .store .now) _ (c .before .why-not .ensures) refused) (c .refused-add .ensures)
 
 pub add-read-spec : {M : Type 1} → statement M
 add-read-spec =
@@ -84,5 +93,6 @@ add-read-spec =
     (λ c. search needs)
     (λ c. search needs)
     returns
+    why-not-requires
     (λ c κs. search needs)
     returns-2)

@@ -6,8 +6,7 @@ use borrow.Author.Needs.{needs}
 use lib.IntN.{pos}
 use mir.Syntax.{w32}
 use mir.Val.{toZ, ofZ, SFits}
-use Rattle.opus_defines.proofs.Outcomes.{meets}
-use Rattle.repacketizer_out.proofs.Outputs.{out-passed}
+use Rattle.repacketizer_out.proofs.Outputs.{meets, out-passed}
 use Rattle.repacketizer_out.proofs.opus_repacketizer_out.Statement.{statement}
 use Rattle.repacketizer_out.proofs.opus_repacketizer_out.Tie as tie
 

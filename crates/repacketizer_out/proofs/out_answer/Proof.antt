@@ -14,8 +14,7 @@ use Rattle.repacketizer.specs.Parts.{collectorOf}
 use Rattle.repacketizer.proofs.Checks.{checked-sound}
 use Rattle.repacketizer_out.specs.Output.{outFrames, outRange}
 use Rattle.opus_defines.specs.Outcome.{leaves}
-use Rattle.opus_defines.proofs.Outcomes.{meets}
-use Rattle.repacketizer_out.proofs.Outputs.{refused-as, out-unsound, out-tight}
+use Rattle.repacketizer_out.proofs.Outputs.{meets, refused-as, out-unsound, out-tight}
 use Rattle.repacketizer_out.proofs.Outputs.{out-long, out-sound, frames-before, frames-under, frames-natural}
 use Rattle.repacketizer_out.proofs.out_answer.Statement.{statement}
 use Rattle.repacketizer_out.proofs.out_answer.Tie as tie

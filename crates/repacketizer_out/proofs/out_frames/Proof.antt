@@ -13,8 +13,7 @@ use Rattle.repacketizer.specs.Collector.{held}
 use Rattle.repacketizer.specs.Parts.{collectorOf}
 use Rattle.repacketizer.proofs.Held.{Holding, holding}
 use Rattle.repacketizer_out.proofs.Ranges.{Part, part-of, part-from}
-use Rattle.opus_defines.proofs.Outcomes.{meets}
-use Rattle.repacketizer_out.proofs.Outputs.{refused-as, frames-none, held-past, held-within}
+use Rattle.repacketizer_out.proofs.Outputs.{meets, refused-as, frames-none, held-past, held-within}
 use Rattle.repacketizer_out.proofs.out_frames.Statement.{statement}
 use Rattle.repacketizer_out.proofs.out_frames.Tie as tie
 

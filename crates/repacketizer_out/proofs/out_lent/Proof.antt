@@ -5,8 +5,7 @@ use borrow.Author.Needs.{needs}
 use mir.Syntax.{w32}
 use mir.Val.{toZ, ofZ}
 use Rattle.repacketizer.specs.Parts.{collectorOf}
-use Rattle.opus_defines.proofs.Outcomes.{meets}
-use Rattle.repacketizer_out.proofs.Outputs.{out-passed}
+use Rattle.repacketizer_out.proofs.Outputs.{meets, out-passed}
 use Rattle.repacketizer_out.proofs.out_lent.Statement.{statement}
 use Rattle.repacketizer_out.proofs.out_lent.Tie as tie
 

@@ -121,7 +121,7 @@ module _ {M : Type 1} (𝓤 : URA M) (H : Heap 𝓤) (A : Atoms 𝓤) (W : Given
       move ! (1 ∷ 0 ∷ []) $ fjoin ! $ move ! (1 ∷ 0 ∷ []) $ fjoin ! $ move ! (1 ∷ 0 ∷ []) $ join ! $ frame ! $ done !
 
   abbrev Says : ℤ → List ℕ → Type 0
-  Says r zs = (r ≡ outAll h (store .now) (dst .now) .number) × (zs ≡ outAll h (store .now) (dst .now) .bytes)
+  Says r zs = (r ≡ outAll h (store .now) (dst .now) .report .number) × (zs ≡ outAll h (store .now) (dst .now) .bytes)
 
   walk : FmC 𝓤 H (W .laws) C → Triple 𝓤 (C #core) (Core 𝓤 H A mem run) → Room u8 (length (store .now)) → Room u8 (length (dst .now))
       → ent 𝓤 (onEntry 𝓤 H A f.signature (bound .0 .0) (bound .0 .1) (bound .0 .3) (bound .0 .4))

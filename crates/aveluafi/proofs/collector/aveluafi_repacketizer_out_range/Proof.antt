@@ -136,7 +136,7 @@ module _ {M : Type 1} (𝓤 : URA M) (H : Heap 𝓤) (A : Atoms 𝓤) (W : Given
       move ! (1 ∷ 0 ∷ []) $ fjoin ! $ move ! (1 ∷ 0 ∷ []) $ fjoin ! $ move ! (1 ∷ 0 ∷ []) $ join ! $ frame ! $ done !
 
   abbrev Says : ℤ → List ℕ → Type 0
-  Says r zs = let x = outRange false false h (store .now) begin end (dst .now) in (r ≡ x .number) × (zs ≡ x .bytes)
+  Says r zs = let x = outRange false false h (store .now) begin end (dst .now) in (r ≡ x .report .number) × (zs ≡ x .bytes)
 
   walk : FmC 𝓤 H (W .laws) C → Triple 𝓤 (C #core) (Core 𝓤 H A mem run) → Room u8 (length (store .now)) → Room u8 (length (dst .now))
       → Is i32 begin (b₀ ∷ []) → Is i32 end (e₀ ∷ [])

@@ -163,7 +163,7 @@ module _ {M : Type 1} (𝓤 : URA M) (H : Heap 𝓤) (A : Atoms 𝓤) (W : Given
       move ! (2 ∷ 1 ∷ []) $ join ! $ join ! $ frame ! $ done !
 
   abbrev Answers : ℤ → Type 0
-  Answers r = r ≡ outRange sd pad h (store .now) begin end (dst .now) .number
+  Answers r = r ≡ outRange sd pad h (store .now) begin end (dst .now) .report .number
 
   abbrev Leaves : List ℕ → Type 0
   Leaves zs = zs ≡ outRange sd pad h (store .now) begin end (dst .now) .bytes

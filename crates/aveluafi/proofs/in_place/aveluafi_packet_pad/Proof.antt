@@ -1,9 +1,6 @@
 -- `aveluafi::in_place::aveluafi_packet_pad` meets its contract: it is the core's pad.
 -- Assumes nothing.
-use mathlib.Core.Path.{_≡_, _∙_}
 use borrow.Author.Needs.{needs}
-use mir.Syntax.{w32}
-use mir.Val.{toZ, ofZ}
 use Rattle.opus_defines.proofs.Outcomes.{meets}
 use Rattle.packet_pad.proofs.Calls.{pad-passed}
 use Rattle.aveluafi.proofs.in_place.aveluafi_packet_pad.Statement.{statement}
@@ -14,8 +11,7 @@ returns c =
     let e = c .before .before in
     let r = e .opus-packet-pad in
     let s = e .before .before .before in
-    let back : toZ w32 (ofZ w32 (r .result)) ≡ r .result = search needs in
-    meets (pad-passed (s .args .«data» .now) (s .args .len) (s .args .new-len) (s .fits .len) (s .fits .new-len)) (back ∙ r .ensures .0) (r .ensures .1)
+    meets (pad-passed (s .args .«data» .now) (s .args .len) (s .args .new-len) (s .fits .len) (s .fits .new-len)) (r .ensures .0) (r .ensures .1)
 
 pub aveluafi-packet-pad-spec : {M : Type 1} → statement M
 aveluafi-packet-pad-spec = tie.close (tie.spec (λ c κs. search needs) (λ c. search needs) returns)

@@ -1,9 +1,6 @@
 -- `aveluafi::in_place::aveluafi_packet_unpad` meets its contract: it is the core's unpad.
 -- Assumes nothing.
-use mathlib.Core.Path.{_≡_, _∙_}
 use borrow.Author.Needs.{needs}
-use mir.Syntax.{w32}
-use mir.Val.{toZ, ofZ}
 use Rattle.opus_defines.proofs.Outcomes.{meets}
 use Rattle.packet_pad.proofs.Calls.{unpad-passed}
 use Rattle.aveluafi.proofs.in_place.aveluafi_packet_unpad.Statement.{statement}
@@ -14,8 +11,7 @@ returns c =
     let e = c .before .before in
     let r = e .opus-packet-unpad in
     let s = e .before .before .before in
-    let back : toZ w32 (ofZ w32 (r .result)) ≡ r .result = search needs in
-    meets (unpad-passed (s .args .«data» .now) (s .args .len) (s .fits .len)) (back ∙ r .ensures .0) (r .ensures .1)
+    meets (unpad-passed (s .args .«data» .now) (s .args .len) (s .fits .len)) (r .ensures .0) (r .ensures .1)
 
 pub aveluafi-packet-unpad-spec : {M : Type 1} → statement M
 aveluafi-packet-unpad-spec = tie.close (tie.spec (λ c κs. search needs) (λ c. search needs) returns)

@@ -1,9 +1,7 @@
 -- `aveluafi::reading::aveluafi_packet_parse_impl` meets its contract: the core's answer as a record, by its verdict.
 -- Assumes nothing.
 use native.Mathlib.Omega.{arith}
-use mathlib.Core.Path.{_≡_, _∙_}
-use mir.Syntax.{w32}
-use mir.Val.{toZ, ofZ}
+use mathlib.Core.Path.{_∙_}
 use borrow.Author.Needs.{needs}
 use Rattle.laws.specs.Bytes.{Bytes}
 use Rattle.aveluafi.proofs.Records.{read-few, record-read, record-unread}
@@ -24,10 +22,8 @@ returns c =
     let p = c .before .before .before .before in
     let r = p .read-into in
     let a = p .before .before .before .args in
-    let n = c .number-of in
-    let back : toZ w32 (ofZ w32 (n .result)) ≡ n .result = search needs in
     let accepted = c .before .before .enum-told .given .1 in
-    record-read (a .self-delimited) (a .«data» .now) (r .result) (r .last .1 .1 .0) (r .ensures) accepted (back ∙ n .ensures)
+    record-read (a .self-delimited) (a .«data» .now) (r .result) (r .last .1 .1 .0) (r .ensures) accepted (c .report-of .ensures)
 
 returns-2 : tie.Need-returns-2
 returns-2 c =

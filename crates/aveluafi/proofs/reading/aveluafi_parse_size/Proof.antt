@@ -10,7 +10,7 @@ use Rattle.aveluafi.proofs.reading.aveluafi_parse_size.Tie as tie
 size-record-requires : tie.Need-size-record-requires
 size-record-requires c κs =
     let k = c .before .shared-slice-known in
-    rw (c .parse-size .ensures) (size-few (c .before .before .args .«data» .now) (record { byte = λ i. k .given i .fits }))
+    rw (c .parse-size .ensures) (size-few (c .before .before .args .rule) (c .before .before .args .«data» .now) (record { byte = λ i. k .given i .fits }))
 
 returns : tie.Need-returns
 returns c = c .size-record .ensures ∙ ap sizeRecord (c .before .parse-size .ensures)

@@ -1,20 +1,13 @@
--- `aveluafi::reading::size_record` meets its contract: the verdict becomes its number.
+-- `aveluafi::reading::size_record` meets its contract: the verdict becomes its report.
 -- Assumes nothing.
-use mathlib.Core.Path.{_≡_, _∙_, ap}
 use native.Mathlib.Omega.{arith}
 use borrow.Author.Needs.{needs}
-use lib.IntN.{ℤ}
-use mir.Syntax.{w32}
-use mir.Val.{toZ, ofZ}
+use Rattle.aveluafi.proofs.Records.{size-reported}
 use Rattle.aveluafi.proofs.reading.size_record.Statement.{statement}
 use Rattle.aveluafi.proofs.reading.size_record.Tie as tie
 
 returns : tie.Need-returns
-returns c =
-    let back : toZ w32 (ofZ w32 (c .verdict-number .result)) ≡ c .verdict-number .result = search needs in
-    let r = c .verdict-number in
-    let s = c .before .before .args .s in
-    ap (λ (n : ℤ). record { number = n; size = s .size }) (back ∙ r .ensures)
+returns c = size-reported (c .before .before .args .s) (c .verdict-report .ensures)
 
 pub size-record-spec : {M : Type 1} → statement M
 size-record-spec = tie.close (tie.spec (λ c. omega (arith, c .before .pre)) (λ c κs. search needs) returns)

@@ -1,11 +1,11 @@
--- `replay_reading::reader::sizes` is safe and ends.
+-- `replay_io::output::sizes` is safe and ends.
 -- Assumes nothing.
 use mathlib.Core.Path.{_≡_}
 use Prim.Native.Nat.{_-_, _≤_}
 use borrow.Author.Needs.{needs}
 use lib.ListN.{length}
-use Rattle.replay_reading.proofs.reader.sizes.Statement.{statement}
-use Rattle.replay_reading.proofs.reader.sizes.Tie as tie
+use Rattle.replay_io.proofs.output.sizes.Statement.{statement}
+use Rattle.replay_io.proofs.output.sizes.Tie as tie
 
 abbrev Inv-loop : tie.InvT-loop
 Inv-loop out₀ at lengths count next₀ i₀ out next i = (i ≤ 48) × (length out ≡ length out₀)
