@@ -13,8 +13,22 @@ static void require(bool holds, const char *what) {
     }
 }
 
+// Rule and place stand beside -4 alone, and a place only beside a rule, within the packet or at its end. (The length reader's -1 has a rule too.)
+static void require_report(int32_t number, uint16_t rule, uint16_t place, int32_t len) {
+    require(rule <= AVELUAFI_MOST_RULE, "a rule above 8");
+    require(rule == 0 || number == AVELUAFI_INVALID_PACKET, "a rule beside another number than -4");
+    require(rule > 0 || place == 0, "a place without a rule");
+    require(place == 0 || place <= len, "a place past the end of the packet");
+}
+
+// The number alone: the crate has no more, and the lines of kinds 1 to 10 are its own.
+static int number_of(struct aveluafi_report r, int32_t len) {
+    require_report(r.number, r.rule, r.place, len);
+    return r.number;
+}
+
 static bool same_packet(const struct aveluafi_packet *a, const struct aveluafi_packet *b) {
-    return a->number == b->number && a->toc == b->toc && memcmp(a->lengths, b->lengths, sizeof a->lengths) == 0 &&
+    return a->number == b->number && a->rule == b->rule && a->place == b->place && a->toc == b->toc && memcmp(a->lengths, b->lengths, sizeof a->lengths) == 0 &&
            a->payload_offset == b->payload_offset && a->packet_offset == b->packet_offset;
 }
 
@@ -24,9 +38,11 @@ static int read_packet(int delim, Bytes p, Packet *packet) {
         struct aveluafi_packet plain = aveluafi_packet_parse(p.at, p.len);
         require(same_packet(&r, &plain), "aveluafi_packet_parse and aveluafi_packet_parse_impl differ");
     }
+    require_report(r.number, r.rule, r.place, p.len);
     if (r.number < 0) {
-        struct aveluafi_packet zeros = {.number = r.number};
-        require(same_packet(&r, &zeros), "aveluafi_packet_parse_impl: a refusal beside which something is not 0");
+        struct aveluafi_packet zeros = {.number = r.number, .rule = r.rule, .place = r.place};
+        require(r.rule > 0 || r.number != AVELUAFI_INVALID_PACKET, "aveluafi_packet_parse_impl: -4 without a rule");
+        require(same_packet(&r, &zeros), "aveluafi_packet_parse_impl: a refusal beside which more than rule and place is not 0");
         return r.number;
     }
     require(r.number <= AVELUAFI_MOST_FRAMES, "aveluafi_packet_parse_impl: over 48 frames");
@@ -64,7 +80,7 @@ static void collect(Collection *c) {
     aveluafi_repacketizer_init(&rp);
     Bytes store = block(AVELUAFI_LEAST_STORE, 0xcc);
     for (int i = 0; i < c->count; i++) {
-        c->added[i] = aveluafi_repacketizer_cat(&rp, c->packets[i].at, c->packets[i].len, store.at, store.len);
+        c->added[i] = number_of(aveluafi_repacketizer_cat(&rp, c->packets[i].at, c->packets[i].len, store.at, store.len), c->packets[i].len);
         memset(c->packets[i].at, 0x99, c->packets[i].len);
     }
     c->held = aveluafi_repacketizer_get_nb_frames(&rp);
@@ -75,15 +91,15 @@ static void collect(Collection *c) {
 
 static int call_in_place(int kind, Bytes buffer, int32_t len, int32_t new_len, int32_t streams) {
     if (kind == PAD) {
-        return aveluafi_packet_pad(buffer.at, buffer.len, len, new_len);
+        return number_of(aveluafi_packet_pad(buffer.at, buffer.len, len, new_len), len);
     }
     if (kind == UNPAD) {
-        return aveluafi_packet_unpad(buffer.at, buffer.len, len);
+        return number_of(aveluafi_packet_unpad(buffer.at, buffer.len, len), len);
     }
     if (kind == MULTISTREAM_PAD) {
-        return aveluafi_multistream_packet_pad(buffer.at, buffer.len, len, new_len, streams);
+        return number_of(aveluafi_multistream_packet_pad(buffer.at, buffer.len, len, new_len, streams), len);
     }
-    return aveluafi_multistream_packet_unpad(buffer.at, buffer.len, len, streams);
+    return number_of(aveluafi_multistream_packet_unpad(buffer.at, buffer.len, len, streams), len);
 }
 
 // The call is lent more bytes than its lengths say, and must leave those.
@@ -105,8 +121,11 @@ static int write_length(int32_t size, Bytes out) {
 }
 
 static int read_length(Bytes b, int *size) {
-    struct aveluafi_size r = aveluafi_parse_size(b.at, b.len);
+    struct aveluafi_size r = aveluafi_parse_size(b.at, b.len, 7);
     require(r.number >= 0 || r.size == 0, "aveluafi_parse_size: a refusal beside which the size is not 0");
+    require(r.rule == (r.number < 0 ? 7 : 0) && r.place == 0, "aveluafi_parse_size: not the rule that was told, or a place");
+    struct aveluafi_size untold = aveluafi_parse_size(b.at, b.len, 5);
+    require(untold.number == AVELUAFI_BAD_ARG && untold.rule == 0 && untold.place == 0 && untold.size == 0, "aveluafi_parse_size: told rule 5");
     *size = r.size;
     return r.number;
 }

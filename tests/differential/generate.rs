@@ -1,6 +1,6 @@
 // Writes cases of the replay protocol to standard output: `generate SEED COUNT` for so many random ones, `generate short` for every packet of 0, 1 and
-// 2 bytes through every call. `generate stages SEED COUNT` writes so many packets to be padded in two steps (tests/stages). The same seed and count
-// give the same bytes.
+// 2 bytes through every call. `generate places ..`: the same for the kinds that tell rule and place, with packets that break a rule more often than not.
+// `generate stages SEED COUNT` writes so many packets to be padded in two steps (tests/stages). The same seed and count give the same bytes.
 use std::io::Write;
 
 // xorshift64*: small, seeded, the same everywhere.
@@ -446,6 +446,287 @@ fn stages(r: &mut Random, out: &mut Vec<u8>) {
     put_bytes(out, &p);
 }
 
+// ---- rule and place
+
+// A packet of code 3 with unequal lengths, any of which may be too long by itself or together with the others; in the self-delimited form the last too.
+fn unequal_packet(r: &mut Random, delim: bool, six: u8) -> Vec<u8> {
+    let most = (5760 / samples(six)).min(6);
+    let count = r.between(1, most);
+    let mut p = vec![six | 3, count as u8 | 0x80];
+    if r.chance(25) {
+        p[1] |= 0x40;
+        let pad = r.between(0, 9);
+        chain(&mut p, r, pad);
+    }
+    let size = r.pick(&[2, 5, 20, 300]);
+    for _ in 1..count + delim as usize {
+        let n = r.below(size);
+        field(&mut p, n);
+    }
+    let n = r.below(2 * size + 1);
+    p.extend(r.bytes(n));
+    p
+}
+
+// A packet with one thing wrong, or right after all.
+fn broken(r: &mut Random, delim: bool, six: Option<u8>) -> Vec<u8> {
+    let mut p = good_packet(r, delim, six);
+    let six = p[0] & 0xfc;
+    match r.below(16) {
+        // cut anywhere, and cut in the first bytes
+        0 => {
+            let n = r.below(p.len() + 1);
+            p.truncate(n);
+        }
+        1 | 2 => {
+            let n = r.below(p.len().min(8) + 1);
+            p.truncate(n);
+        }
+        // one of the first bytes changed, or some bytes more
+        3 | 4 => {
+            let i = r.below(p.len().min(8));
+            p[i] = if r.chance(40) { r.byte() } else { r.pick(&[0, 1, 2, 251, 252, 253, 254, 255]) };
+        }
+        5 => {
+            let n = r.between(1, 5);
+            p.extend(r.bytes(n));
+        }
+        // lengths too long, alone and together
+        6..=8 => p = unequal_packet(r, delim, six),
+        // two frames of which the first says its length
+        9 => {
+            p = vec![six | 2];
+            field(&mut p, frame_length(r));
+            let n = r.pick(&[0, 1, 3, 60, 1275, 1276, 1300]) + r.below(4);
+            p.extend(r.bytes(n));
+        }
+        // a count of 0, at 120 ms, or above
+        10 => {
+            let full = 5760 / samples(six);
+            let count = r.pick(&[0, full.min(63), (full + 1).min(63), 63]) as u8;
+            p = vec![six | 3, count | r.pick(&[0, 0x40, 0x80, 0xc0])];
+            let n = r.below(4);
+            p.extend(r.bytes(n));
+        }
+        // padding that does not fit, or just does
+        11 => {
+            p = vec![six | 3, 1 | r.pick(&[0x40, 0xc0])];
+            p.extend(vec![255; r.pick(&[0, 0, 1, 2])]);
+            let n = r.below(6);
+            p.push(n as u8);
+            let k = (p.len() - 3) * 254 + r.below(8);
+            p.extend(r.bytes(k));
+        }
+        // equal lengths that do not divide, or are too long
+        12 => {
+            let count = r.between(1, (5760 / samples(six)).min(6));
+            p = vec![six | 3, count as u8];
+            let n = count * r.pick(&[0, 1, 2, 1275, 1276]) + r.below(3);
+            p.extend(r.bytes(n));
+        }
+        // the rest as one frame or two
+        13 => {
+            p = vec![six | r.pick(&[0, 1])];
+            let n = r.pick(&[0, 1, 2, 1275, 1276, 2550, 2551, 2552]);
+            p.extend(r.bytes(n));
+        }
+        14 if r.chance(3) => {
+            let n = r.pick(&[65534, 65535, 65536]);
+            p = r.bytes(n);
+        }
+        14 => {
+            let n = r.below(6);
+            p = r.bytes(n);
+        }
+        _ => {}
+    }
+    p.truncate(65536);
+    p
+}
+
+// Streams one behind another, of which any may be broken, and bytes may be missing.
+fn broken_streams(r: &mut Random, streams: usize) -> Vec<u8> {
+    let mut p = Vec::new();
+    let bad = r.below(streams + 1);
+    for i in 0..streams {
+        let delim = i + 1 < streams;
+        let q = if i == bad { broken(r, delim, None) } else { packet_within(r, delim, 0x80, 3, 20) };
+        p.extend(q);
+    }
+    if r.chance(15) {
+        let n = r.below(p.len() + 1);
+        p.truncate(n);
+    }
+    p.truncate(65536);
+    p
+}
+
+// A length that a call is told of a buffer: mostly its own.
+fn told_length(r: &mut Random, len: usize) -> i32 {
+    match r.below(40) {
+        0 => r.pick(&EXTREMES),
+        1 => len as i32 + 1,
+        2 => 0,
+        3 => r.below(len + 1) as i32,
+        _ => len as i32,
+    }
+}
+
+// A collector that holds frames of this kind, now and then not sound.
+fn held_state(r: &mut Random, out: &mut Vec<u8>, six: u8) {
+    let full = 5760 / samples(six);
+    let count = match r.below(6) {
+        0 | 1 => 0,
+        2 => full,
+        _ => r.between(1, full),
+    };
+    let mut lens: Vec<u16> = (0..count).map(|_| r.pick(&[0, 1, 2, 60])).collect();
+    let (mut toc, mut said, mut each) = (six | r.pick(&[0, 1, 2, 3]), count as u16, (samples(six) / 6) as u16);
+    match r.below(40) {
+        0 => toc = r.byte(),
+        1 => said = r.pick(&[0, 1, 48, 49, 65535]),
+        2 => each = r.pick(&[0, 20, 40, 65535]),
+        3 if count > 0 => lens[count - 1] = r.pick(&[1275, 1276, 32768, 65535]),
+        _ => {}
+    }
+    out.push(toc);
+    out.extend(said.to_le_bytes());
+    out.extend(each.to_le_bytes());
+    // lengths behind those held, which stay
+    if lens.len() < 48 && r.chance(20) {
+        lens.push(r.below(65536) as u16);
+    }
+    out.push(lens.len() as u8);
+    for n in &lens {
+        out.extend(n.to_le_bytes());
+    }
+    let store = if r.chance(3) { r.pick(&[0, 61199, 61201, 65536]) } else { 61200 };
+    put(out, store);
+    let held: usize = lens[..count].iter().map(|n| *n as usize).sum();
+    let front = r.bytes(held.min(store as usize));
+    put_bytes(out, &front);
+}
+
+fn adds_with_places(r: &mut Random, out: &mut Vec<u8>) {
+    let six = if r.chance(25) { 0x80 } else { r.byte() & 0xfc };
+    out.push(17);
+    held_state(r, out, six);
+    let n = r.between(0, 4);
+    out.push(n as u8);
+    for _ in 0..n {
+        let kind = if r.chance(80) { six } else { six ^ r.pick(&[4, 8, 16, 32, 64, 128]) };
+        let p = if r.chance(70) { broken(r, false, Some(kind)) } else { packet_within(r, false, kind, 2, 20) };
+        put_bytes(out, &p);
+    }
+}
+
+fn place_case(r: &mut Random, out: &mut Vec<u8>) {
+    match r.below(20) {
+        0..=7 => {
+            let delim = r.chance(50);
+            out.extend([11, delim as u8]);
+            put_bytes(out, &broken(r, delim, None));
+        }
+        8 => {
+            out.extend([12, r.pick(&[4, 7, 8, 4, 7, 8, 0, 1, 2, 3, 5, 6, 9, 255])]);
+            let n = r.between(0, 3);
+            let mut b = r.bytes(n);
+            if n > 0 && r.chance(60) {
+                b[0] = r.between(250, 255) as u8;
+            }
+            put_bytes(out, &b);
+        }
+        9 | 10 => {
+            let p = broken(r, false, None);
+            let pad = r.chance(50);
+            let mut lent = p.clone();
+            let more = if pad { r.pick(&[0, 1, 2, 3, 256, 300]) } else { r.pick(&[0, 0, 1]) };
+            lent.resize((p.len() + more).min(65536), 0x55);
+            out.push(if pad { 13 } else { 14 });
+            put(out, told_length(r, p.len()));
+            if pad {
+                put(out, told_length(r, lent.len()));
+            }
+            put_bytes(out, &lent);
+        }
+        11 | 12 => {
+            let streams = if r.chance(4) { r.between(1, 255) } else { r.between(1, 5) };
+            let p = broken_streams(r, streams);
+            let pad = r.chance(50);
+            let mut lent = p.clone();
+            let more = if pad { r.pick(&[0, 1, 2, 3, 256, 300]) } else { r.pick(&[0, 0, 1]) };
+            lent.resize((p.len() + more).min(65536), 0x55);
+            out.push(if pad { 15 } else { 16 });
+            let said = match r.below(30) {
+                0 => r.pick(&EXTREMES),
+                1 | 2 => streams as i32 + 1,
+                3 => streams as i32 - 1,
+                _ => streams as i32,
+            };
+            put(out, said);
+            put(out, told_length(r, p.len()));
+            if pad {
+                put(out, told_length(r, lent.len()));
+            }
+            put_bytes(out, &lent);
+        }
+        _ => adds_with_places(r, out),
+    }
+}
+
+// One packet through every call that tells rule and place.
+fn every_place(out: &mut Vec<u8>, p: &[u8]) {
+    let n = p.len() as i32;
+    for delim in 0..2 {
+        out.extend([11, delim]);
+        put_bytes(out, p);
+    }
+    for told in [4, 5, 7, 8] {
+        out.extend([12, told]);
+        put_bytes(out, p);
+    }
+    let mut longer = p.to_vec();
+    longer.extend([0x55, 0x55]);
+    out.push(13);
+    put(out, n);
+    put(out, n + 2);
+    put_bytes(out, &longer);
+    out.push(14);
+    put(out, n);
+    put_bytes(out, p);
+    // behind a stream of one frame, and before one
+    for q in [[&[0, 1, 0xaa], p].concat(), [p, &[0, 0xaa]].concat()] {
+        let n = q.len() as i32;
+        let mut longer = q.clone();
+        longer.push(0x55);
+        out.push(15);
+        put(out, 2);
+        put(out, n);
+        put(out, n + 1);
+        put_bytes(out, &longer);
+        out.push(16);
+        put(out, 2);
+        put(out, n);
+        put_bytes(out, &q);
+    }
+    // to an empty collector; to one that holds a frame of the packet's kind, and to one that holds 00 AA
+    let six = p.first().map_or(0, |b| b & 0xfc);
+    for (toc, count) in [(0, 0u16), (six, 1), (0, 1)] {
+        out.push(17);
+        out.push(toc);
+        out.extend(count.to_le_bytes());
+        out.extend((count * (samples(toc) / 6) as u16).to_le_bytes());
+        out.push(count as u8);
+        if count == 1 {
+            out.extend(1u16.to_le_bytes());
+        }
+        put(out, 61200);
+        put_bytes(out, &[0xaa; 1][..count as usize]);
+        out.push(1);
+        put_bytes(out, p);
+    }
+}
+
 // One packet through every call.
 fn every_call(out: &mut Vec<u8>, p: &[u8]) {
     for d in 0..2 {
@@ -486,12 +767,14 @@ fn main() {
     let words: Vec<String> = std::env::args().skip(1).collect();
     let mut to = std::io::BufWriter::with_capacity(1 << 20, std::io::stdout().lock());
     let mut out = Vec::new();
-    if words.len() == 1 && words[0] == "short" {
-        every_call(&mut out, &[]);
+    let places = words.first().is_some_and(|w| w == "places");
+    if words.len() == 1 + places as usize && words[places as usize] == "short" {
+        let every = if places { every_place } else { every_call };
+        every(&mut out, &[]);
         for a in 0..=255u8 {
-            every_call(&mut out, &[a]);
+            every(&mut out, &[a]);
             for b in 0..=255u8 {
-                every_call(&mut out, &[a, b]);
+                every(&mut out, &[a, b]);
             }
             to.write_all(&out).unwrap();
             out.clear();
@@ -499,9 +782,9 @@ fn main() {
         return;
     }
     let staged = words.len() == 3 && words[0] == "stages";
-    let numbers: Option<Vec<u64>> = words[staged as usize..].iter().map(|w| w.parse().ok()).collect();
+    let numbers: Option<Vec<u64>> = words[(staged || places) as usize..].iter().map(|w| w.parse().ok()).collect();
     let Some([seed, count]) = numbers.as_deref() else {
-        eprintln!("usage: generate SEED COUNT | generate short | generate stages SEED COUNT");
+        eprintln!("usage: generate [places | stages] SEED COUNT | generate [places] short");
         std::process::exit(2);
     };
     // a seed of 0 would stay 0
@@ -509,6 +792,8 @@ fn main() {
     for _ in 0..*count {
         if staged {
             stages(&mut r, &mut out);
+        } else if places {
+            place_case(&mut r, &mut out);
         } else {
             case(&mut r, &mut out);
         }

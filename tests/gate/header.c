@@ -27,9 +27,10 @@ static void number(long x) {
     text(digits + at);
 }
 
-static void is(const char *what, long found, long expected) {
+static void field(const char *what, const char *name, long found, long expected) {
     text(found == expected ? "ok " : "FAILED ");
     text(what);
+    text(name);
     if (found != expected) {
         text(": ");
         number(found);
@@ -38,6 +39,16 @@ static void is(const char *what, long found, long expected) {
         failures++;
     }
     text("\n");
+}
+
+static void is(const char *what, long found, long expected) {
+    field(what, "", found, expected);
+}
+
+static void reports(const char *what, struct aveluafi_report r, long number, long rule, long place) {
+    field(what, ".number", r.number, number);
+    field(what, ".rule", r.rule, rule);
+    field(what, ".place", r.place, place);
 }
 
 static int zeros(const uint16_t *lengths, int from) {
@@ -52,19 +63,25 @@ static uint8_t packet[31] = {0x0B, 0xC3, 4, 6, 7};
 static uint8_t store[AVELUAFI_LEAST_STORE], out[64];
 
 static void reading(void) {
-    static const uint8_t field[2] = {253, 2};
-    struct aveluafi_size s = aveluafi_parse_size(field, 2);
+    static const uint8_t length[2] = {253, 2};
+    struct aveluafi_size s = aveluafi_parse_size(length, 2, 7);
     is("size.number", s.number, 2);
     is("size.size", s.size, 261);
-    s = aveluafi_parse_size(field, 1);
+    is("size has no rule and no place", s.rule == 0 && s.place == 0, 1);
+    s = aveluafi_parse_size(length, 1, 8);
     is("size.number refused", s.number, AVELUAFI_BAD_ARG);
+    is("size.rule refused", s.rule, 8);
+    is("size.place refused", s.place, 0);
     is("size.size refused", s.size, 0);
+    s = aveluafi_parse_size(length, 1, 5);
+    is("size told rule 5", s.number == AVELUAFI_BAD_ARG && s.rule == 0 && s.place == 0 && s.size == 0, 1);
     is("encode_size", aveluafi_encode_size(261, out, 2), 2);
     is("encode_size first", out[0], 253);
     is("encode_size second", out[1], 2);
 
     struct aveluafi_packet p = aveluafi_packet_parse(packet, sizeof packet);
     is("packet.number", p.number, 3);
+    is("packet has no rule and no place", p.rule == 0 && p.place == 0, 1);
     is("packet.toc", p.toc, 0x0B);
     is("packet.lengths[0]", p.lengths[0], 6);
     is("packet.lengths[1]", p.lengths[1], 7);
@@ -77,8 +94,12 @@ static void reading(void) {
     p = aveluafi_packet_parse_impl(own, sizeof own, true);
     is("packet_parse_impl number", p.number, 2);
     is("packet_parse_impl packet_offset", (long)p.packet_offset, 7);
-    p = aveluafi_packet_parse(packet, 1);
+    /* the second length is longer than what is behind it */
+    static const uint8_t broken[] = {0x0B, 0x83, 1, 200, 10, 11, 12};
+    p = aveluafi_packet_parse(broken, sizeof broken);
     is("packet.number refused", p.number, AVELUAFI_INVALID_PACKET);
+    is("packet.rule refused", p.rule, 7);
+    is("packet.place refused", p.place, 3);
     is("packet refused is zeros", p.toc == 0 && zeros(p.lengths, 0) && p.payload_offset == 0 && p.packet_offset == 0, 1);
     is("packet_get_nb_frames", aveluafi_packet_get_nb_frames(packet, sizeof packet), 3);
     is("packet_get_samples_per_frame", aveluafi_packet_get_samples_per_frame(packet, sizeof packet, 8000), 160);
@@ -91,7 +112,7 @@ static void collecting(void) {
         bytes[i] = 0xA5;
     aveluafi_repacketizer_init(&rp);
     is("repacketizer empty is zeros", rp.toc == 0 && rp.nb_frames == 0 && rp.framesize == 0 && zeros(rp.len, 0), 1);
-    is("repacketizer_cat", aveluafi_repacketizer_cat(&rp, packet, sizeof packet, store, sizeof store), AVELUAFI_OK);
+    reports("repacketizer_cat", aveluafi_repacketizer_cat(&rp, packet, sizeof packet, store, sizeof store), AVELUAFI_OK, 0, 0);
     is("repacketizer.toc", rp.toc, 0x0B);
     is("repacketizer.nb_frames", rp.nb_frames, 3);
     is("repacketizer.framesize", rp.framesize, 160);
@@ -99,6 +120,7 @@ static void collecting(void) {
     is("repacketizer.len[1]", rp.len[1], 7);
     is("repacketizer.len[2]", rp.len[2], 9);
     is("repacketizer.len behind", zeros(rp.len, 3), 1);
+    reports("repacketizer_cat broken", aveluafi_repacketizer_cat(&rp, packet, 3, store, sizeof store), AVELUAFI_INVALID_PACKET, 7, 2);
     is("repacketizer_get_nb_frames", aveluafi_repacketizer_get_nb_frames(&rp), 3);
     is("repacketizer_out", aveluafi_repacketizer_out(&rp, store, sizeof store, out, sizeof out), 26);
     is("repacketizer_out_range", aveluafi_repacketizer_out_range(&rp, store, sizeof store, 1, 2, out, sizeof out), 8);
@@ -111,10 +133,16 @@ static void collecting(void) {
 static void in_place(void) {
     for (size_t i = 0; i < sizeof packet; i++)
         out[i] = packet[i];
-    is("packet_pad", aveluafi_packet_pad(out, sizeof out, 31, 40), AVELUAFI_OK);
-    is("packet_unpad", aveluafi_packet_unpad(out, sizeof out, 40), 26);
-    is("multistream_packet_pad", aveluafi_multistream_packet_pad(out, sizeof out, 26, 50, 1), AVELUAFI_OK);
-    is("multistream_packet_unpad", aveluafi_multistream_packet_unpad(out, sizeof out, 50, 1), 26);
+    reports("packet_pad", aveluafi_packet_pad(out, sizeof out, 31, 40), AVELUAFI_OK, 0, 0);
+    reports("packet_unpad", aveluafi_packet_unpad(out, sizeof out, 40), 26, 0, 0);
+    reports("multistream_packet_pad", aveluafi_multistream_packet_pad(out, sizeof out, 26, 50, 1), AVELUAFI_OK, 0, 0);
+    reports("multistream_packet_unpad", aveluafi_multistream_packet_unpad(out, sizeof out, 50, 1), 26, 0, 0);
+    /* one stream of three bytes, then a second one without its count byte */
+    static uint8_t streams[5] = {0, 1, 0xAA, 3};
+    reports("packet_pad broken", aveluafi_packet_pad(streams + 3, 2, 1, 2), AVELUAFI_INVALID_PACKET, 5, 1);
+    reports("packet_unpad broken", aveluafi_packet_unpad(streams + 3, 2, 1), AVELUAFI_INVALID_PACKET, 5, 1);
+    reports("multistream_packet_pad broken", aveluafi_multistream_packet_pad(streams, 5, 4, 5, 2), AVELUAFI_INVALID_PACKET, 5, 4);
+    reports("multistream_packet_unpad broken", aveluafi_multistream_packet_unpad(streams, 5, 4, 2), AVELUAFI_INVALID_PACKET, 5, 4);
 }
 
 static void captures(void) {
@@ -137,24 +165,24 @@ static void nothing(void) {
     struct aveluafi_repacketizer rp;
     aveluafi_repacketizer_init(&rp);
     is("NULL encode_size", aveluafi_encode_size(7, NULL, 0), AVELUAFI_BUFFER_TOO_SMALL);
-    is("NULL parse_size", aveluafi_parse_size(NULL, 0).number, AVELUAFI_BAD_ARG);
+    is("NULL parse_size", aveluafi_parse_size(NULL, 0, 4).number, AVELUAFI_BAD_ARG);
     is("NULL packet_get_samples_per_frame", aveluafi_packet_get_samples_per_frame(NULL, 0, 8000), AVELUAFI_BAD_ARG);
     is("NULL packet_get_nb_frames", aveluafi_packet_get_nb_frames(NULL, 0), AVELUAFI_BAD_ARG);
     is("NULL packet_parse", aveluafi_packet_parse(NULL, 0).number, AVELUAFI_INVALID_PACKET);
     is("NULL packet_parse_impl", aveluafi_packet_parse_impl(NULL, 0, true).number, AVELUAFI_INVALID_PACKET);
-    is("NULL repacketizer_cat packet", aveluafi_repacketizer_cat(&rp, NULL, 0, store, sizeof store), AVELUAFI_INVALID_PACKET);
-    is("NULL repacketizer_cat store", aveluafi_repacketizer_cat(&rp, packet, sizeof packet, NULL, 0), AVELUAFI_BAD_ARG);
-    is("NULL repacketizer_cat both", aveluafi_repacketizer_cat(&rp, NULL, 0, NULL, 0), AVELUAFI_BAD_ARG);
-    is("repacketizer_cat for the outputs", aveluafi_repacketizer_cat(&rp, packet, sizeof packet, store, sizeof store), AVELUAFI_OK);
+    is("NULL repacketizer_cat packet", aveluafi_repacketizer_cat(&rp, NULL, 0, store, sizeof store).number, AVELUAFI_INVALID_PACKET);
+    is("NULL repacketizer_cat store", aveluafi_repacketizer_cat(&rp, packet, sizeof packet, NULL, 0).number, AVELUAFI_BAD_ARG);
+    is("NULL repacketizer_cat both", aveluafi_repacketizer_cat(&rp, NULL, 0, NULL, 0).number, AVELUAFI_BAD_ARG);
+    is("repacketizer_cat for the outputs", aveluafi_repacketizer_cat(&rp, packet, sizeof packet, store, sizeof store).number, AVELUAFI_OK);
     is("NULL repacketizer_out", aveluafi_repacketizer_out(&rp, store, sizeof store, NULL, 0), AVELUAFI_BUFFER_TOO_SMALL);
     is("NULL repacketizer_out store", aveluafi_repacketizer_out(&rp, NULL, 0, out, sizeof out), AVELUAFI_BAD_ARG);
     is("NULL repacketizer_out_range", aveluafi_repacketizer_out_range(&rp, store, sizeof store, 0, 1, NULL, 0), AVELUAFI_BUFFER_TOO_SMALL);
     is("NULL repacketizer_out_range_impl", aveluafi_repacketizer_out_range_impl(&rp, store, sizeof store, 0, 1, NULL, 0, true, true),
        AVELUAFI_BUFFER_TOO_SMALL);
-    is("NULL packet_pad", aveluafi_packet_pad(NULL, 0, 1, 2), AVELUAFI_BAD_ARG);
-    is("NULL packet_unpad", aveluafi_packet_unpad(NULL, 0, 1), AVELUAFI_BAD_ARG);
-    is("NULL multistream_packet_pad", aveluafi_multistream_packet_pad(NULL, 0, 1, 2, 1), AVELUAFI_BAD_ARG);
-    is("NULL multistream_packet_unpad", aveluafi_multistream_packet_unpad(NULL, 0, 1, 1), AVELUAFI_BAD_ARG);
+    is("NULL packet_pad", aveluafi_packet_pad(NULL, 0, 1, 2).number, AVELUAFI_BAD_ARG);
+    is("NULL packet_unpad", aveluafi_packet_unpad(NULL, 0, 1).number, AVELUAFI_BAD_ARG);
+    is("NULL multistream_packet_pad", aveluafi_multistream_packet_pad(NULL, 0, 1, 2, 1).number, AVELUAFI_BAD_ARG);
+    is("NULL multistream_packet_unpad", aveluafi_multistream_packet_unpad(NULL, 0, 1, 1).number, AVELUAFI_BAD_ARG);
     struct aveluafi_record r = aveluafi_next_record(NULL, 0, 0);
     is("NULL next_record", r.number == 0 && r.place == 0 && r.length == 0 && r.passed == 0, 1);
 }
