@@ -1,13 +1,20 @@
--- Collectors by computation: what a reset makes, and which states are sound, with the numbers that the call returns (document 01, 'Return numbers').
+-- Collectors by computation: what a reset makes, which states are sound, and what an add asks before it reads, with the numbers that the calls return
+-- (document 01, 'Return numbers'; document 02, M-100).
 -- Assumes nothing.
 use Prim.Native.Nat.{ℕ, _-_}
 use mathlib.Core.Path.{_≡_, refl}
+use mathlib.Core.Bool.{false}
 use mathlib.Core.List.{List, [], _∷_, _++_, map}
 use lib.IntN.{ℤ, pos, negsuc}
 use lib.ListN.{length, replicate}
-use Rattle.opus_defines.specs.Numbers.{numberOf}
+use Rattle.opus_defines.specs.Numbers.{plain, numberOf}
+use Rattle.opus_defines.specs.Rules.{ruleRefusal}
+use Rattle.opus_defines.specs.declared.Report.{Report}
 use Rattle.opus_toc.specs.Toc.{duration, samples}
+use Rattle.opus_toc.specs.Answers.{nbFrames}
+use Rattle.opus_format.specs.Reading.{read}
 use Rattle.repacketizer.specs.Collector.{empty, sound, nbFramesHeld}
+use Rattle.repacketizer.specs.Adding.{staysOut, added, addedReport}
 use Rattle.repacketizer.specs.declared.OpusRepacketizer.{OpusRepacketizer}
 
 abbrev collector : ℕ → ℕ → ℕ → List ℕ → OpusRepacketizer
@@ -33,3 +40,28 @@ pub unsound-ones : map (λ (rp : OpusRepacketizer). numberOf (nbFramesHeld rp))
     ≡ replicate 7 (negsuc 5)
 unfolding nbFramesHeld sound samples duration
 unsound-ones = refl
+
+-- ---- the order in which an add asks (001): the upper six TOC bits and the joint time before the packet is read, its own time by the reader
+abbrev reports : OpusRepacketizer → List (List ℕ) → List Report
+reports rp ps = map (λ (p : List ℕ). addedReport (added false rp p (replicate 61200 0) .answer)) ps
+
+abbrev breaks : ℕ → ℕ → Report
+breaks rule place = record { number = negsuc 3; rule = rule; place = place }
+
+-- 00 AA is held. No byte; other upper six bits, and no count byte; no count byte, no frame, 13 frames of 10 ms; 12 frames that would last 130 ms with
+-- the one held, readable and not; a rest that does not halve; a packet that is taken
+pub held-asks-first :
+    reports (collector 0x00 1 80 (1 ∷ []))
+    ([] ∷ (0x07 ∷ []) ∷ (0x03 ∷ []) ∷ (0x03 ∷ 0x00 ∷ []) ∷ (0x03 ∷ 0x0d ∷ []) ∷ (0x03 ∷ 0x0c ∷ []) ∷ (0x03 ∷ 0x0c ∷ 0xaa ∷ [])
+    ∷ (0x01 ∷ 0xaa ∷ []) ∷ (0x01 ∷ []) ∷ [])
+    ≡ breaks 1 0 ∷ plain (negsuc 3) ∷ breaks 5 1 ∷ breaks 5 1 ∷ breaks 5 1 ∷ plain (negsuc 3) ∷ plain (negsuc 3)
+    ∷ breaks 3 0 ∷ plain (pos 0) ∷ []
+unfolding added staysOut sound samples duration nbFrames read ruleRefusal
+held-asks-first = refl
+
+-- an empty collector asks nothing of a packet that the reader does not
+pub empty-asks-nothing :
+    reports empty ((0x07 ∷ []) ∷ (0x03 ∷ 0x0d ∷ []) ∷ (0x03 ∷ 0x0c ∷ 0xaa ∷ []) ∷ (0x03 ∷ 0x0c ∷ []) ∷ [])
+    ≡ breaks 5 1 ∷ breaks 5 1 ∷ breaks 6 2 ∷ plain (pos 0) ∷ []
+unfolding added staysOut sound samples duration nbFrames read ruleRefusal
+empty-asks-nothing = refl
