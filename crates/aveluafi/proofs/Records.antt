@@ -4,21 +4,24 @@
 --     size-reported, ..            a report in a record
 --     size-number, packet-number   the number of a record is the one of the core's answer
 --     read-few, record-read, ..    a packet that was read, by its verdict
+--     one-record, two-record       a packet of one frame or two that was read without an array
+--     long-record, broken-record   a packet that is too long, or breaks a rule
 --     record-found                 a record of a capture
 -- Assumes nothing.
-use Prim.Native.Nat.{ℕ, _-_, _≤_}
+use Prim.Native.Nat.{ℕ, _-_, _≤_, _<_}
 use native.Mathlib.Omega.{arith}
 use mathlib.Core.Path.{_≡_, refl, sym, ap, _∙_}
-use mathlib.Core.List.{List, []}
-use mathlib.Core.Bool.{Bool}
+use mathlib.Core.List.{List, [], _∷_}
+use mathlib.Core.Bool.{Bool, false}
 use lib.Dec.{ltb, eqb}
 use lib.IntN.{ℤ, pos}
-use lib.ListN.{length, length-append}
+use lib.ListN.{length, getD, set, length-append}
 use mir.Syntax.{w32}
 use mir.Val.{toZ, ofZ, SFits}
 use mir.ValLaws.{toZ-ofZ}
 use Rattle.laws.specs.Bytes.{Bytes}
 use Rattle.laws.proofs.Never.{never, by-test}
+use Rattle.opus_defines.specs.Rules.{ruleRefusal}
 use Rattle.opus_defines.specs.Numbers.{plain, refusalReport, verdictNumber, verdictReport}
 use Rattle.opus_defines.specs.declared.Refusal.{Refusal}
 use Rattle.opus_defines.specs.declared.Refusal.the-variants.{BadArg}
@@ -37,10 +40,12 @@ use Rattle.opus_format.specs.Reading.{Reading, refused, accepted, read}
 use Rattle.opus.specs.Answers.{noPacket, packetNumber, packetOf, parsed, answerOf}
 use Rattle.opus.specs.declared.Packet.{Packet}
 use Rattle.opus.specs.declared.PacketHead.{PacketHead}
+use Rattle.opus.proofs.AtPacket.{parse-long, parse-read}
+use Rattle.opus.proofs.AtShort.{ShortRead}
 use Rattle.opus.proofs.Lent.{lent-accepted}
 use Rattle.opus_format.proofs.Facts.{facts}
 use Rattle.capture.specs.declared.NextRecord.{NextRecord}
-use Rattle.aveluafi.specs.Records.{sizeRecord, packetRecord, captureRecord}
+use Rattle.aveluafi.specs.Records.{sizeRecord, packetRecord, wholeRecord, captureRecord}
 
 -- ---- a packet that was read, with its lengths in the array l
 few : (sd : Bool) (p : List ℕ) → Bytes p → parsed sd p .count ≤ 48
@@ -72,12 +77,35 @@ module _ (sd : Bool) (p : List ℕ) (h : PacketHead) (l : List ℕ) where
   read-few bytes e = let n : h .count ≡ parsed sd p .count = ap (λ (r : Packet). r .count) e in omega (arith, n, few sd p bytes)
 
   module _ (e : answerOf h l ≡ parsed sd p) where
-    pub record-read : h .verdict ≡ Accepted → {r : Report} → r ≡ plain (pos (h .count))
-        → record { report = r; lengths = l; toc = h .toc; «payload_offset» = h .first; «packet_offset» = h .taken } ≡ packetRecord (parsed sd p)
-    record-read v m = rw (m, ← lent-accepted sd p h l e v, v)
+    pub record-read : h .verdict ≡ Accepted → wholeRecord h l ≡ packetRecord (parsed sd p)
+    record-read v = rw (← lent-accepted sd p h l e v, v)
 
     pub record-unread : {c : Refusal} → h .verdict ≡ Refused c → packetRecord (noPacket c) ≡ packetRecord (parsed sd p)
     record-unread {c} v = ap packetRecord (sym (refused-zeros sd p c (ap (λ (r : Packet). r .verdict) (sym e) ∙ v)))
+
+-- ---- an ordinary packet, by what was read of it without an array: its frames, or the rule that it breaks
+module _ (p : List ℕ) where
+  read-record : (ns : List ℕ) (first : ℕ) → ShortRead p ns first → {r : Report} → r ≡ plain (pos (length ns))
+      → record { report = r; lengths = padded48 ns; toc = getD p 0 0; «payload_offset» = first; «packet_offset» = length p }
+      ≡ packetRecord (parsed false p)
+  read-record ns first s e = rw (← parse-read false p (s .short), s .means, e, s .whole)
+
+  pub one-record : (n first : ℕ) → ShortRead p (n ∷ []) first → {r : Report} → r ≡ plain (pos 1)
+      → record { report = r; lengths = set (padded48 []) 0 n; toc = getD p 0 0; «payload_offset» = first; «packet_offset» = length p }
+      ≡ packetRecord (parsed false p)
+  one-record n first s e = read-record (n ∷ []) first s e
+
+  pub two-record : (m n first : ℕ) → ShortRead p (m ∷ n ∷ []) first → {r : Report} → r ≡ plain (pos 2)
+      → record { report = r; lengths = set (set (padded48 []) 0 m) 1 n; toc = getD p 0 0; «payload_offset» = first; «packet_offset» = length p }
+      ≡ packetRecord (parsed false p)
+  two-record m n first s e = read-record (m ∷ n ∷ []) first s e
+
+  pub long-record : 65535 < length p → packetRecord (noPacket BadArg) ≡ packetRecord (parsed false p)
+  long-record h = ap packetRecord (parse-long false p h)
+
+  pub broken-record : length p ≤ 65535 → (rule : Rule) (place : ℕ) → read false p ≡ refused rule place → {e : Refusal} → e ≡ ruleRefusal rule place
+      → packetRecord (noPacket e) ≡ packetRecord (parsed false p)
+  broken-record h rule place q r = rw (← parse-read false p h, q, r)
 
 -- a field of one or two bytes, whatever rule asks for it
 told-few : (rule : Rule) (s : List ℕ) → Bytes s → sizeTold rule s .bytes ≤ 2
@@ -101,6 +129,10 @@ size-few told s bytes =
 -- ---- a report in a record
 pub size-reported : (s : Size) {r : Report} → r ≡ verdictReport (s .bytes) (s .verdict) → record { report = r; size = s .size } ≡ sizeRecord s
 size-reported s e = rw e
+
+pub whole-reported : (h : PacketHead) (l : List ℕ) {r : Report} → r ≡ plain (pos (h .count))
+    → record { report = r; lengths = l; toc = h .toc; «payload_offset» = h .first; «packet_offset» = h .taken } ≡ wholeRecord h l
+whole-reported h l e = rw e
 
 pub none-reported : (c : Refusal) {r : Report} → r ≡ refusalReport c
     → record { report = r; lengths = padded48 []; toc = 0; «payload_offset» = 0; «packet_offset» = 0 } ≡ packetRecord (noPacket c)

@@ -1,7 +1,11 @@
 -- The core's answers as the records that C sees: the verdict becomes its report, that is number, rule and place, and the other fields are the same.
-use Rattle.opus_defines.specs.Numbers.{verdictReport}
+use Prim.Native.Nat.{ℕ}
+use mathlib.Core.List.{List}
+use lib.IntN.{pos}
+use Rattle.opus_defines.specs.Numbers.{plain, verdictReport}
 use Rattle.opus_size.specs.declared.Size.{Size}
 use Rattle.opus.specs.declared.Packet.{Packet}
+use Rattle.opus.specs.declared.PacketHead.{PacketHead}
 use Rattle.aveluafi.specs.declared.reading.AveluafiSize.{AveluafiSize}
 use Rattle.aveluafi.specs.declared.reading.AveluafiPacket.{AveluafiPacket}
 use Rattle.capture.specs.Finding.{recordNumber}
@@ -18,6 +22,17 @@ packetRecord p =
     record {
       report = verdictReport (p .count) (p .verdict);
       lengths = p .lengths;
+      toc = p .toc;
+      «payload_offset» = p .first;
+      «packet_offset» = p .taken;
+    }
+
+-- a packet that was read, with its lengths beside it
+abbrev pub wholeRecord : PacketHead → List ℕ → AveluafiPacket
+wholeRecord p lengths =
+    record {
+      report = plain (pos (p .count));
+      lengths = lengths;
       toc = p .toc;
       «payload_offset» = p .first;
       «packet_offset» = p .taken;

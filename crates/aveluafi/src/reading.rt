@@ -1,12 +1,14 @@
 // Length fields, the TOC byte and the packet reader, exported.
 ghost use mathlib.Core.Path.{_≡_};
 ghost use mathlib.Core.Bool.{false};
-ghost use Prim.Native.Nat.{_≤_};
+ghost use Prim.Native.Nat.{_<_, _≤_};
 ghost use Rattle.opus_defines.specs.Numbers.{numberOf};
 ghost use Rattle.opus_size.specs.Answers.{encodeSize, parseSize};
 ghost use Rattle.opus_toc.specs.Answers.{samplesPerFrame, nbFrames};
 ghost use Rattle.opus.specs.Answers.{noPacket, parsed};
-ghost use Rattle.aveluafi.specs.Records.{sizeRecord, packetRecord};
+ghost use Rattle.aveluafi.specs.Records.{sizeRecord, packetRecord, wholeRecord};
+use opus::PacketHead;
+use opus::Short;
 use opus_defines::Answer;
 use opus_defines::Refusal;
 use opus_defines::Report;
@@ -92,6 +94,20 @@ fn no_packet(e: Refusal) -> AveluafiPacket
     }
 }
 
+// A packet whose lengths are these.
+fn whole_packet(p: PacketHead, lengths: [u16; 48]) -> AveluafiPacket
+    requires { ⌜ p .count < 65536 ⌝ }
+    ensures { λ r. ⌜ r ≡ wholeRecord p lengths ⌝ }
+{
+    AveluafiPacket {
+        report: opus_defines::report_of(Answer::Number(p.count as u16)),
+        lengths,
+        toc: p.toc,
+        payload_offset: p.first,
+        packet_offset: p.taken,
+    }
+}
+
 // The packet in the named delimiting.
 #[no_mangle]
 pub extern "C" fn aveluafi_packet_parse_impl(data: &[u8], self_delimited: bool) -> AveluafiPacket
@@ -101,21 +117,55 @@ pub extern "C" fn aveluafi_packet_parse_impl(data: &[u8], self_delimited: bool) 
     let p = opus::read_into(data, self_delimited, &mut lengths);
     let v = p.verdict;
     let Verdict::Refused(e) = v else {
-        return AveluafiPacket {
-            report: opus_defines::report_of(Answer::Number(p.count as u16)),
-            lengths,
-            toc: p.toc,
-            payload_offset: p.first,
-            packet_offset: p.taken,
-        };
+        return whole_packet(p, lengths);
     };
     no_packet(e)
 }
 
-// The ordinary packet.
+// The ordinary packet. One or two frames of code 0, 1 or 2 are read without an array, and each way returns by itself: where ways meet, the record is
+// copied once more.
 #[no_mangle]
 pub extern "C" fn aveluafi_packet_parse(data: &[u8]) -> AveluafiPacket
     ensures { λ r. ⌜ r ≡ packetRecord (parsed false (now («data» .entry))) ⌝ }
 {
-    aveluafi_packet_parse_impl(data, false)
+    let s = opus::short_at(data);
+    match s {
+        Short::One(n, first) => {
+            let mut lengths = [0u16; 48];
+            lengths[0] = n;
+            return AveluafiPacket {
+                report: opus_defines::report_of(Answer::Number(1)),
+                lengths,
+                toc: data[0],
+                payload_offset: first,
+                packet_offset: data.len(),
+            };
+        }
+        Short::Two(m, n, first) => {
+            let mut lengths = [0u16; 48];
+            lengths[0] = m;
+            lengths[1] = n;
+            return AveluafiPacket {
+                report: opus_defines::report_of(Answer::Number(2)),
+                lengths,
+                toc: data[0],
+                payload_offset: first,
+                packet_offset: data.len(),
+            };
+        }
+        Short::Broken(rule, place) => {
+            if opus::MOST_PACKET < data.len() {
+                return no_packet(Refusal::BadArg);
+            }
+            return no_packet(opus_defines::rule_refusal(rule, place));
+        }
+        Short::Counted => {}
+    }
+    let mut lengths = [0u16; 48];
+    let p = opus::read_into(data, false, &mut lengths);
+    let v = p.verdict;
+    let Verdict::Refused(e) = v else {
+        return whole_packet(p, lengths);
+    };
+    no_packet(e)
 }

@@ -1,17 +1,19 @@
 -- A packet of frames that were read at a place.
 --     head-found, head-broken             the packet by what was read of its frames
+--     uneven-..                           code 3 with its flag for unequal lengths
 --     rule-.., body-..                    code 3 behind its count byte
 --     three-..                            code 3: its count byte, and 120 ms counted in samples
---     code-..                             a packet by its code
+--     no-fields, two-..                   codes 0 and 2: no length field, and one
+--     code-.., ..-fits                    a packet by its code, and that its frames end within it
 --     parse-..                            what the reader answers, by the tests on the length
 -- Assumes nothing.
 use Prim.Native.Nat.{ℕ, zero, suc, _+_, _*_, _-_, _/_, _%_, _≤_, _<_}
 use native.Mathlib.Omega.{arith}
-use native.Mathlib.Nat.{mul-le-mul-left}
+use native.Mathlib.Nat.{add-zero, mul-le-mul-left}
 use mathlib.Core.Path.{_≡_, refl, sym, ap, _∙_}
 use mathlib.Core.List.{List, [], _∷_}
 use mathlib.Core.Bool.{Bool, true, false, cond}
-use lib.Dec.{ltb, leb, eqb}
+use lib.Dec.{ltb, leb}
 use lib.ListN.{length, getD, take, drop, length-drop}
 use lib.Seq.{drop-drop, length-take-le}
 use borrow.Author.Tests.{lt-ltb, le-ltb, leb-true}
@@ -20,24 +22,27 @@ use Rattle.laws.proofs.Every.{every-at}
 use Rattle.laws.proofs.Never.{never, by-test}
 use Rattle.opus_defines.specs.Rules.{ruleRefusal}
 use Rattle.opus_defines.specs.declared.Refusal.the-variants.{BadArg}
-use Rattle.opus_defines.specs.declared.Verdict.the-variants.{Accepted, Refused}
-use Rattle.opus_size.specs.Size.{Field, noField, field}
+use Rattle.opus_defines.specs.declared.Verdict.the-variants.{Accepted}
+use Rattle.opus_size.specs.Size.{Field, readField, noField, field}
 use Rattle.opus_toc.specs.Toc.{upperSix, configuration, duration, samples}
 use Rattle.opus_toc.proofs.Samples.{lasts-at}
-use Rattle.opus_format.specs.Frames.{total}
+use Rattle.opus_format.specs.Frames.{total, padded48}
 use Rattle.opus_defines.specs.declared.Rule.{Rule}
 use Rattle.opus_defines.specs.declared.Rule.the-variants.{R1, R2, R3, R4, R5, R6, R7}
-use Rattle.opus_format.specs.Reading.{Front, broken, front, unequal, equal, readPadding, frames3, sizeRule, lasts, pointed}
+use Rattle.opus_format.specs.Reading.{Front, broken, front, Fields, noFields, fields, thenFields, readFields, together}
+use Rattle.opus_format.specs.Reading.{unequal, equal, readPadding, frames3, sizeRule, lasts, pointed}
 use Rattle.opus_format.specs.Reading.{Reading, refused, accept, behindPadding, read3, readCode, read}
 use Rattle.opus.specs.Answers.{noPacket, packetOf, parsed, answerOf}
-use Rattle.opus_parts.specs.Parts.{framesAt, framesLent, FramesRead, endOf, paddingAt}
+use Rattle.opus_parts.specs.Parts.{sizesAt, SizesRead, stopAt, framesAt, framesLent, FramesRead, endOf, paddingAt}
 use Rattle.opus.specs.Heads.{noHead, headAt}
 use Rattle.opus_parts.specs.declared.frames_at.FramesAt.{FramesAt}
 use Rattle.opus_parts.specs.declared.frames_at.FramesAt.the-variants.{At, Broken}
 use Rattle.opus_parts.specs.declared.padding_at.PaddingAt.the-variants.{Whole, Unfit}
+use Rattle.opus_parts.specs.declared.sizes_at.SizesAt.the-variants.{All, Cut}
 use Rattle.opus.specs.declared.Packet.{Packet}
 use Rattle.opus.specs.declared.PacketHead.{PacketHead}
-use Rattle.opus_parts.proofs.AtFrames.{Within, unequal-within, equal-within, frames-within}
+use Rattle.opus_parts.proofs.AtSizes.{none-known, stops-there}
+use Rattle.opus_parts.proofs.AtFrames.{Within, unequal-within, equal-within}
 use Rattle.opus_parts.proofs.AtPadding.{Padded, padding-was}
 
 module _ (toc count at pad : ℕ) (f : FramesAt) where
@@ -80,14 +85,57 @@ module _ (s : List ℕ) (m toc count at pad : ℕ) (r : Front) (w : Within (leng
   answer-fits : at + endOf f + pad ≤ m
   answer-fits = rw (g .0) (packet-fits m (length s) count at pad r w e)
 
+-- ---- length fields of which one breaks, or which are too long together
+cut-refused : (s : List ℕ) (sd : Bool) (r : Rule) (k m toc pad place : ℕ) (t : List ℕ) → together (readFields k s) ≡ noFields t
+    → place ≡ pointed r (m - pad - length t)
+    → noPacket (ruleRefusal r place) ≡ packetOf (accept m toc pad (unequal sd r k s))
+cut-refused s sd r k m toc pad place t q e = rw (q, e)
+
+stop-within : (m : ℕ) (f : Fields) → stopAt m f ≤ m
+stop-within m (noFields t) = omega arith
+stop-within m (fields ns t) = omega arith
+
+-- ---- code 3 with its flag for unequal lengths, whose frames stand in s behind `at` bytes
+pub uneven-place : (s : List ℕ) (k place : ℕ) → place ≡ stopAt (length s) (readFields k s) → place ≤ length s
+uneven-place s k place e = rw e (stop-within (length s) (readFields k s))
+
+module _ (s : List ℕ) (sd : Bool) (toc count at pad : ℕ) (one : 1 ≤ count) where
+  uneven-within : Within (length s) count (unequal sd R7 (count - 1) s)
+  uneven-within = unequal-within s count sd R7 (count - 1) (omega arith)
+
+  pub uneven-cut : Cut ≡ sizesAt (length s) (together (readFields (count - 1) s))
+      → (place : ℕ) → place ≡ stopAt (length s) (readFields (count - 1) s)
+      → noPacket (ruleRefusal R7 (at + place)) ≡ packetOf (accept (at + length s + pad) toc pad (unequal sd R7 (count - 1) s))
+  uneven-cut c place e =
+      let b = none-known s (count - 1) c in
+      let inside : length (b .0) ≤ length s = rw (b .1) at uneven-within in
+      let there : place ≡ length s - length (b .0) = e ∙ stops-there s (count - 1) (b .0) (b .1) in
+      cut-refused s sd R7 (count - 1) (at + length s + pad) toc pad (at + place) (b .0) (b .1) (omega arith)
+
+  module _ (f : FramesAt) (l : List ℕ) (g : FramesRead s (unequal sd R7 (count - 1) s) f l) where
+    pub uneven-fits : at + endOf f + pad ≤ at + length s + pad
+    uneven-fits = answer-fits s (at + length s + pad) toc count at pad (unequal sd R7 (count - 1) s) uneven-within refl f l g
+
+    pub uneven-read : (h : PacketHead) → h ≡ headAt toc count at pad f
+        → answerOf h l ≡ packetOf (accept (at + length s + pad) toc pad (unequal sd R7 (count - 1) s))
+    uneven-read h e =
+        rw e (answer-of s (at + length s + pad) toc count at pad (unequal sd R7 (count - 1) s) uneven-within refl f l g)
+
 -- ---- code 3 behind its count byte
--- which rule a length breaks, by the flag for unequal lengths
+-- which rule a length breaks, and how the frames are read, by the flag for unequal lengths
 pub rule-equal : (v : ℕ) → v ≡ 0 → R6 ≡ sizeRule v
 rule-equal v e = rw e
 
 pub rule-unequal : (v : ℕ) → (v ≡ 0 → ⊥) → R7 ≡ sizeRule v
 rule-unequal zero n = absurd (n refl)
 rule-unequal (suc v) n = refl
+
+frames-equal : (sd : Bool) (v count : ℕ) (s : List ℕ) → v ≡ 0 → frames3 sd v count s ≡ equal sd R6 count s
+frames-equal sd v count s e = rw e
+
+frames-unequal : (sd : Bool) (v count : ℕ) (s : List ℕ) → (v ≡ 0 → ⊥) → frames3 sd v count s ≡ unequal sd R7 (count - 1) s
+frames-unequal sd zero count s n = absurd (n refl)
+frames-unequal sd (suc v) count s n = refl
 
 unfit-refused : (sd : Bool) (k m toc v count : ℕ) (f : Field) → paddingAt k f ≡ Unfit
     → noPacket (ruleRefusal (sizeRule v) 2) ≡ packetOf (behindPadding sd m toc v count f)
@@ -138,20 +186,31 @@ module _ (sd : Bool) (d : List ℕ) (count : ℕ) where
         le-ltb (length (drop (2 + next) d)) pad (omega (arith, body-room, length-drop (2 + next) d)) in
         rw (was .means, drop-drop next 2 d, enough, left)
 
-    module _ (one : 1 ≤ count) (f : FramesAt) (l : List ℕ)
-        (g : FramesRead (part d (2 + next) (length d - pad)) (frames3 sd (getD d 1 0 / 128 % 2) count (part d (2 + next) (length d - pad))) f l) where
+    pub body-bytes : 2 + next + length (part d (2 + next) (length d - pad)) + pad ≡ length d
+    unfolding inner
+    body-bytes = sym all-bytes
+
+    module _ (f : FramesAt) (l : List ℕ)
+        (g : FramesRead (part d (2 + next) (length d - pad)) (equal sd R6 count (part d (2 + next) (length d - pad))) f l) where
       pub body-fits : 2 + next + endOf f + pad ≤ length d
       unfolding inner
       body-fits =
-          answer-fits inner (length d) (getD d 0 0) count (2 + next) pad (frames3 sd (getD d 1 0 / 128 % 2) count inner)
-          (frames-within inner count sd (getD d 1 0 / 128 % 2) one) all-bytes f l g
+          answer-fits inner (length d) (getD d 0 0) count (2 + next) pad (equal sd R6 count inner) (equal-within inner count sd R6) all-bytes f l g
 
-      pub body-read : (h : PacketHead) → h ≡ headAt (getD d 0 0) count (2 + next) pad f → answerOf h l ≡ packetOf (body sd d count)
+      pub body-equal : getD d 1 0 / 128 % 2 ≡ 0 → (h : PacketHead) → h ≡ headAt (getD d 0 0) count (2 + next) pad f
+          → answerOf h l ≡ packetOf (body sd d count)
       unfolding inner
-      body-read h e =
-          rw (e, reads)
-          (answer-of inner (length d) (getD d 0 0) count (2 + next) pad (frames3 sd (getD d 1 0 / 128 % 2) count inner)
-          (frames-within inner count sd (getD d 1 0 / 128 % 2) one) all-bytes f l g)
+      body-equal v h e =
+          rw (e, reads, frames-equal sd (getD d 1 0 / 128 % 2) count inner v)
+          (answer-of inner (length d) (getD d 0 0) count (2 + next) pad (equal sd R6 count inner) (equal-within inner count sd R6) all-bytes f l g)
+
+    -- what the packet with its flag is, counted from what stands before and behind its frames
+    pub body-unequal : (getD d 1 0 / 128 % 2 ≡ 0 → ⊥) → (x : Packet)
+        → x ≡ packetOf (accept (2 + next + length (part d (2 + next) (length d - pad)) + pad) (getD d 0 0) pad
+        (unequal sd R7 (count - 1) (part d (2 + next) (length d - pad))))
+        → x ≡ packetOf (body sd d count)
+    unfolding inner
+    body-unequal n x e = rw (reads, frames-unequal sd (getD d 1 0 / 128 % 2) count inner n) (rw body-bytes at e)
 
 -- ---- code 3
 -- a frame is at least 2.5 ms
@@ -221,13 +280,6 @@ unfolding read
 by-code sd [] h = absurd (omega arith)
 by-code sd (toc ∷ s) h = refl
 
-third : (sd : Bool) (c m toc : ℕ) (s : List ℕ) → (c ≡ 0 → ⊥) → (c ≡ 1 → ⊥) → (c ≡ 2 → ⊥)
-    → readCode sd c m toc s ≡ read3 sd m toc s
-third sd zero m toc s n₀ n₁ n₂ = absurd (n₀ refl)
-third sd (suc zero) m toc s n₀ n₁ n₂ = absurd (n₁ refl)
-third sd (suc (suc zero)) m toc s n₀ n₁ n₂ = absurd (n₂ refl)
-third sd (suc (suc (suc c))) m toc s n₀ n₁ n₂ = refl
-
 -- the two kinds of frames behind a TOC byte
 abbrev unequalIn : Bool → Rule → ℕ → List ℕ → Front
 unequalIn sd r k s = unequal sd r k s
@@ -235,23 +287,35 @@ unequalIn sd r k s = unequal sd r k s
 abbrev equalIn : Bool → List ℕ → Front
 equalIn sd s = equal sd R3 2 s
 
+-- no length field was read
+pub no-fields : (s l : List ℕ) → l ≡ padded48 [] → SizesRead s (together (readFields 0 s)) (All 0 0) l
+no-fields s l e =
+    let none : ltb (length s) (total []) ≡ false = le-ltb (length s) (total []) (omega arith) in
+    let start : length s - length s ≡ 0 = omega arith in
+    rw (none, start) (refl, e)
+
+-- one field breaks at its own first byte
+one-cut : (s t : List ℕ) → together (readFields 1 s) ≡ noFields t → t ≡ s
+one-cut s t e = go (readField s) e
+  where
+    go : (f : Field) → together (thenFields (readFields 0) s f) ≡ noFields t → t ≡ s
+    go noField q = cc
+    go (field n u) q =
+        by-test (ltb (length u) n) (λ b. let p = rw b at q in cc)
+        (λ b. never (let p = rw (b, add-zero n, b) at q in cc))
+
 module _ (sd : Bool) (d : List ℕ) (h : 1 ≤ length d) where
   module _ (k count : ℕ) (c : k + 1 ≡ count) (r : Rule) (f : FramesAt) (l : List ℕ)
       (g : FramesRead (part d 1 (length d)) (unequalIn sd r k (part d 1 (length d))) f l) where
     pub unequal-fits : 1 + endOf f + 0 ≤ length d
     unequal-fits = rest-fits d h count (unequalIn sd r k) (λ s. unequal-within s count sd r k c) f l g
 
-    unequal-read : readCode sd (getD d 0 0 % 4) (length d) (getD d 0 0) (drop 1 d) ≡ accept (length d) (getD d 0 0) 0 (unequalIn sd r k (drop 1 d))
-        → answerOf (headAt (getD d 0 0) count 1 0 f) l ≡ packetOf (read sd d)
-    unequal-read e =
-        rw (by-code sd d h, e) (rest-read d h count (unequalIn sd r k) (λ s. unequal-within s count sd r k c) f l g)
+    unequal-read : answerOf (headAt (getD d 0 0) count 1 0 f) l ≡ packetOf (accept (length d) (getD d 0 0) 0 (unequalIn sd r k (drop 1 d)))
+    unequal-read = rest-read d h count (unequalIn sd r k) (λ s. unequal-within s count sd r k c) f l g
 
-    module _ (x : PacketHead) (y : x ≡ headAt (getD d 0 0) count 1 0 f) where
-      pub code-0 : getD d 0 0 % 4 ≡ 0 → k ≡ 0 → r ≡ R2 → answerOf x l ≡ packetOf (read sd d)
-      code-0 e z q = rw y (unequal-read (rw (e, z, q)))
-
-      pub code-2 : getD d 0 0 % 4 ≡ 2 → k ≡ 1 → r ≡ R4 → answerOf x l ≡ packetOf (read sd d)
-      code-2 e z q = rw y (unequal-read (rw (e, z, q)))
+  pub code-0 : (f : FramesAt) (l : List ℕ) → FramesRead (part d 1 (length d)) (unequalIn sd R2 0 (part d 1 (length d))) f l
+      → (x : PacketHead) → x ≡ headAt (getD d 0 0) 1 1 0 f → getD d 0 0 % 4 ≡ 0 → answerOf x l ≡ packetOf (read sd d)
+  code-0 f l g x y e = rw (y, by-code sd d h, e) (unequal-read 0 1 refl R2 f l g)
 
   module _ (f : FramesAt) (l : List ℕ) (g : FramesRead (part d 1 (length d)) (equalIn sd (part d 1 (length d))) f l) where
     pub equal-fits : 1 + endOf f + 0 ≤ length d
@@ -260,9 +324,24 @@ module _ (sd : Bool) (d : List ℕ) (h : 1 ≤ length d) where
     pub code-1 : (x : PacketHead) → x ≡ headAt (getD d 0 0) 2 1 0 f → getD d 0 0 % 4 ≡ 1 → answerOf x l ≡ packetOf (read sd d)
     code-1 x y e = rw (y, by-code sd d h, e) (rest-read d h 2 (equalIn sd) (λ s. equal-within s 2 sd R3) f l g)
 
-  pub code-3 : (getD d 0 0 % 4 ≡ 0 → ⊥) → (getD d 0 0 % 4 ≡ 1 → ⊥) → (getD d 0 0 % 4 ≡ 2 → ⊥)
-      → packetOf (read3 sd (length d) (getD d 0 0) (drop 1 d)) ≡ packetOf (read sd d)
-  code-3 n₀ n₁ n₂ = rw (by-code sd d h, third sd (getD d 0 0 % 4) (length d) (getD d 0 0) (drop 1 d) n₀ n₁ n₂)
+  pub two-cut : Cut ≡ sizesAt (length (part d 1 (length d))) (together (readFields 1 (part d 1 (length d))))
+      → noPacket (ruleRefusal R4 1) ≡ packetOf (accept (length d) (getD d 0 0) 0 (unequal sd R4 1 (drop 1 d)))
+  two-cut c =
+      let b = none-known (drop 1 d) 1 (rw (part-to-end d 1) at c) in
+      let front : b .0 ≡ drop 1 d = one-cut (drop 1 d) (b .0) (b .1) in
+      cut-refused (drop 1 d) sd R4 1 (length d) (getD d 0 0) 0 1 (b .0) (b .1) (rw front (omega (arith, length-drop 1 d)))
+
+  pub two-read : (f : FramesAt) (l : List ℕ) → FramesRead (part d 1 (length d)) (unequalIn sd R4 1 (part d 1 (length d))) f l
+      → (x : PacketHead) → x ≡ headAt (getD d 0 0) 2 1 0 f
+      → answerOf x l ≡ packetOf (accept (length d) (getD d 0 0) 0 (unequal sd R4 1 (drop 1 d)))
+  two-read f l g x y = rw y (unequal-read 1 2 refl R4 f l g)
+
+  pub code-2 : (getD d 0 0 % 4 ≡ 3 → ⊥) → (getD d 0 0 % 4 ≡ 0 → ⊥) → (getD d 0 0 % 4 ≡ 1 → ⊥)
+      → packetOf (accept (length d) (getD d 0 0) 0 (unequal sd R4 1 (drop 1 d))) ≡ packetOf (read sd d)
+  code-2 n₃ n₀ n₁ = let two : getD d 0 0 % 4 ≡ 2 = omega arith in rw (by-code sd d h, two)
+
+  pub code-3 : getD d 0 0 % 4 ≡ 3 → packetOf (read3 sd (length d) (getD d 0 0) (drop 1 d)) ≡ packetOf (read sd d)
+  code-3 e = rw (by-code sd d h, e)
 
 -- ---- the tests on the length
 module _ (sd : Bool) where

@@ -3,25 +3,29 @@
 --     short-..                          what `short_at` answers, by its tests
 --     ShortRead, one-read, two-read, none-read     what a caller knows of the packet
 -- Assumes nothing.
-use Prim.Native.Nat.{ℕ, _-_, _/_, _%_, _≤_, _<_}
+use Prim.Native.Nat.{ℕ, zero, suc, _+_, _-_, _/_, _%_, _≤_, _<_}
 use native.Mathlib.Omega.{arith}
 use native.Mathlib.Nat.{add-zero, sub-zero}
-use mathlib.Core.Path.{_≡_, refl}
-use mathlib.Core.List.{List, [], _∷_}
+use mathlib.Core.Path.{_≡_, refl, sym, ap, _∙_}
+use mathlib.Core.List.{List, [], _∷_, _++_}
 use mathlib.Core.Bool.{true, false}
 use lib.Dec.{ltb, eqb}
-use lib.ListN.{length, getD, drop, length-drop}
-use borrow.Author.Tests.{lt-ltb, le-ltb, eq-eqb, ne-eqb}
+use lib.ListN.{length, getD, take, drop, length-append, length-drop}
+use lib.Seq.{length-take-le}
+use borrow.Author.Tests.{lt-ltb, le-ltb, eq-eqb, ne-eqb, eqb-false}
 use Rattle.laws.proofs.Never.{by-test}
 use Rattle.laws.specs.Bytes.{Bytes}
-use Rattle.opus_size.specs.Size.{mostBytes, readField, noField}
+use Rattle.opus_size.specs.Size.{mostBytes, lengthField, readField, noField}
 use Rattle.opus_size.proofs.At.{Found}
+use Rattle.opus_size.proofs.Fields.{width}
 use Rattle.opus_toc.specs.Toc.{code}
 use Rattle.opus_defines.specs.declared.Rule.{Rule}
 use Rattle.opus_defines.specs.declared.Rule.the-variants.{R1, R2, R3, R4}
-use Rattle.opus_format.specs.Frames.{total}
+use Rattle.opus_format.specs.Frames.{joined, cut, total, longest}
+use Rattle.opus_format.specs.Format.{Layout, code0, code1, code2, code3equal, code3unequal}
 use Rattle.opus_format.specs.Reading.{unequal, equal, Reading, refused, accepted, accept, read}
-use Rattle.opus_format.proofs.Sound.{read-spelled}
+use Rattle.opus_format.proofs.Frames.{total-lengths}
+use Rattle.opus_format.proofs.Sound.{Spelled, read-spelled}
 use Rattle.opus_format.proofs.Facts.{Facts, facts}
 use Rattle.opus.specs.Answers.{shortOf, shortAt}
 use Rattle.opus.specs.declared.Short.{Short}
@@ -111,11 +115,43 @@ module _ (d : List ℕ) where
   unfolding shortAt
   short-counted n₀ n₁ n₂ = rw (eq-eqb (code (getD d 0 0)) 3 (omega arith))
 
--- ---- what a caller knows: what was answered is what is read of the packet
+-- ---- a packet of code 0, 1 or 2: one frame or two behind at most three bytes, and nothing behind them
+layout-short : {six : ℕ} {head ns : List ℕ} {pad : ℕ} → Layout false six head ns pad → (code (getD head 0 0) ≡ 3 → ⊥) → longest ns ≤ mostBytes
+    → length head + (total ns + pad) ≤ 2553
+layout-short (code0 n) c s = omega arith
+layout-short (code1 n) c s = omega arith
+layout-short (code2 m n) c s = omega (arith, length-append (lengthField m) [], width m)
+layout-short {six = six} (code3equal count n l d) c s = absurd (c (omega arith))
+layout-short {six = six} (code3unequal ns n l d) c s = absurd (c (omega arith))
+
+first-byte : (p : List ℕ) (n : ℕ) → 1 ≤ n → getD (take n p) 0 0 ≡ getD p 0 0
+first-byte p zero h = absurd (omega arith)
+first-byte [] (suc n) h = refl
+first-byte (a ∷ p) (suc n) h = refl
+
+module _ (p : List ℕ) (toc : ℕ) (ns : List ℕ) (first taken : ℕ) (w : Spelled false p toc ns first taken) where
+  all-taken : taken ≡ length p
+  all-taken = let none : length (drop taken p) ≡ 0 = ap length (w .behind) in omega (arith, w .within, length-drop taken p)
+
+  few-bytes : 1 ≤ first → (code (getD p 0 0) ≡ 3 → ⊥) → length p ≤ 2553
+  few-bytes h c =
+      let q = w .packet in
+      let frames = cut ns (drop first p) in
+      let same : getD (q .head) 0 0 ≡ getD p 0 0 = ap (λ (s : List ℕ). getD s 0 0) (w .header) ∙ first-byte p first h in
+      let parts : taken ≡ length (q .head) + (length (joined frames) + length (q .padding)) =
+      sym (length-take-le taken p (w .within))
+      ∙ (ap length (q .bytes)
+      ∙ (length-append (q .head) (joined frames ++ q .padding)
+      ∙ ap (λ (n : ℕ). length (q .head) + n) (length-append (joined frames) (q .padding)))) in
+      omega (arith, all-taken, parts, total-lengths frames, layout-short (q .layout) (rw same c) (q .small))
+
+-- ---- what a caller knows: what was answered is what is read of the packet, which is all of p, and not too long
 pub record ShortRead (p ns : List ℕ) (first : ℕ) : Type 0 where
   pub taken : ℕ
   pub means : read false p ≡ accepted (getD p 0 0) ns first taken
   pub known : Facts (length p) (getD p 0 0) ns first taken
+  pub whole : taken ≡ length p
+  pub short : length p ≤ 65535
 
 data Answered (p : List ℕ) : Short → Type 0 where
   one : (n first : ℕ) → ShortRead p (n ∷ []) first → Answered p (One n first)
@@ -125,19 +161,28 @@ data Answered (p : List ℕ) : Short → Type 0 where
 
 answered : (p : List ℕ) → Bytes p → Answered p (shortAt p)
 unfolding shortAt
-answered p bytes = by-test (eqb (code (getD p 0 0)) 3) (λ t. rw t other) (λ t. rw t (go (read false p) refl))
+answered p bytes =
+    by-test (eqb (code (getD p 0 0)) 3) (λ t. rw t other) (λ t. rw t (go (eqb-false (code (getD p 0 0)) 3 t) (read false p) refl))
   where
-    found : (toc : ℕ) (ns : List ℕ) (first taken : ℕ) → read false p ≡ accepted toc ns first taken → ShortRead p ns first
-    found toc ns first taken q =
-        let y : read false p ≡ accepted (getD p 0 0) ns first taken = rw (← read-spelled false p toc ns first taken bytes q .toc-is) q in
-        record { taken = taken; means = y; known = facts false p (getD p 0 0) ns first taken bytes y }
+    found : (code (getD p 0 0) ≡ 3 → ⊥) → (toc : ℕ) (ns : List ℕ) (first taken : ℕ) → read false p ≡ accepted toc ns first taken → ShortRead p ns first
+    found c toc ns first taken q =
+        let w = read-spelled false p toc ns first taken bytes q in
+        let y : read false p ≡ accepted (getD p 0 0) ns first taken = rw (← w .toc-is) q in
+        let f = facts false p (getD p 0 0) ns first taken bytes y in
+        record {
+          taken = taken;
+          means = y;
+          known = f;
+          whole = all-taken p toc ns first taken w;
+          short = omega (arith, few-bytes p toc ns first taken w (f .headed) c);
+        }
 
-    go : (x : Reading) → read false p ≡ x → Answered p (shortOf x)
-    go (refused rule place) q = none rule place q
-    go (accepted toc [] first taken) q = other
-    go (accepted toc (n ∷ []) first taken) q = one n first (found toc (n ∷ []) first taken q)
-    go (accepted toc (m ∷ n ∷ []) first taken) q = two m n first (found toc (m ∷ n ∷ []) first taken q)
-    go (accepted toc (m ∷ n ∷ k ∷ ns) first taken) q = other
+    go : (code (getD p 0 0) ≡ 3 → ⊥) → (x : Reading) → read false p ≡ x → Answered p (shortOf x)
+    go c (refused rule place) q = none rule place q
+    go c (accepted toc [] first taken) q = other
+    go c (accepted toc (n ∷ []) first taken) q = one n first (found c toc (n ∷ []) first taken q)
+    go c (accepted toc (m ∷ n ∷ []) first taken) q = two m n first (found c toc (m ∷ n ∷ []) first taken q)
+    go c (accepted toc (m ∷ n ∷ k ∷ ns) first taken) q = other
 
 module _ (p : List ℕ) (bytes : Bytes p) (r : Short) (e : r ≡ shortAt p) where
   was : {s : Short} → r ≡ s → Answered p s

@@ -3,12 +3,13 @@
 ghost use mathlib.Core.Path.{_≡_};
 ghost use mathlib.Core.Bool.{false};
 ghost use mathlib.Core.List.{[]};
-ghost use Prim.Native.Nat.{_+_, _/_, _%_, _<_, _≤_};
+ghost use Prim.Native.Nat.{_+_, _-_, _/_, _%_, _<_, _≤_};
 ghost use lib.ListN.{length, getD, drop};
 ghost use Rattle.opus_format.specs.Frames.{padded48};
 ghost use Rattle.opus_toc.specs.Toc.{code};
 ghost use Rattle.opus_defines.specs.Rules.{ruleRefusal};
-ghost use Rattle.opus_format.specs.Reading.{sizeRule, pointed, readPadding, behindPadding, read3, read};
+ghost use Rattle.opus_defines.specs.declared.Rule.the-variants.{R4, R7};
+ghost use Rattle.opus_format.specs.Reading.{sizeRule, pointed, unequal, accept, readPadding, behindPadding, read3, read};
 ghost use Rattle.opus.specs.Answers.{noPacket, packetOf, parsed, answerOf, shortOf, shortAt};
 ghost use Rattle.opus_parts.specs.Parts.{endOf};
 ghost use Rattle.opus.specs.Heads.{noHead, headAt};
@@ -18,10 +19,12 @@ use opus_defines::Verdict;
 use opus_defines::wide;
 use opus_parts::frames_at::FramesAt;
 use opus_parts::frames_at::equal_frames;
-use opus_parts::frames_at::frames_3;
-use opus_parts::frames_at::unequal_frames;
+use opus_parts::frames_at::last_frame;
 use opus_parts::padding_at::PaddingAt;
 use opus_parts::padding_at::read_padding;
+use opus_parts::sizes_at::SizesAt;
+use opus_parts::sizes_at::break_at;
+use opus_parts::sizes_at::read_sizes;
 use opus_size::SizeAt;
 
 // The longest packet, in bytes.
@@ -134,6 +137,35 @@ fn behind_toc(toc: u8, count: usize, f: FramesAt) -> PacketHead
     packet_at(toc, count, 1, 0, f)
 }
 
+// The packet of code 3 with its flag for unequal lengths, whose frames stand in s from place `at` of the packet on.
+fn unequal_3(
+    s: &[u8],
+    toc: u8,
+    count: usize,
+    at: usize,
+    pad: usize,
+    self_delimited: bool,
+    lengths: &mut [u16; 48],
+) -> PacketHead
+    requires { ⌜ (1 ≤ count) × (count ≤ 48) × (at + length (now s) + pad ≤ 65535) ⌝ }
+    requires zeros { ⌜ now lengths ≡ padded48 [] ⌝ }
+    ensures { λ r. ⌜ answerOf r (now (lengths .exit))
+        ≡ packetOf (accept (at + length (now (s .entry)) + pad) toc pad (unequal «self_delimited» R7 (count - 1) (now (s .entry)))) ⌝ }
+{
+    let k = count - 1;
+    let f = read_sizes(s, k, lengths);
+    let SizesAt::All(next, sum) = f else {
+        return broken_head(Rule::R7, at + break_at(s, k));
+    };
+    packet_at(
+        toc,
+        count,
+        at,
+        pad,
+        last_frame(s, next, sum, k, self_delimited, lengths),
+    )
+}
+
 // The packet of code 3 behind its count byte: padding lengths, then frames up to the padding.
 fn read_body(data: &[u8], count: usize, self_delimited: bool, lengths: &mut [u16; 48]) -> PacketHead
     requires { ⌜ (2 ≤ length (now «data»)) × (length (now «data») ≤ 65535) × (1 ≤ count) × (count ≤ 48) ⌝ }
@@ -150,8 +182,12 @@ fn read_body(data: &[u8], count: usize, self_delimited: bool, lengths: &mut [u16
     };
     let at = 2 + next;
     let end = data.len() - pad;
-    let f = frames_3(&data[at..end], count_byte, count, self_delimited, lengths);
-    packet_at(data[0], count, at, pad, f)
+    let s = &data[at..end];
+    if count_byte / 128 % 2 == 0 {
+        let f = equal_frames(s, count, Rule::R6, self_delimited, lengths);
+        return packet_at(data[0], count, at, pad, f);
+    }
+    unequal_3(s, data[0], count, at, pad, self_delimited, lengths)
 }
 
 // A packet of code 3: its count byte is there, and its frames last at most 120 ms.
@@ -175,7 +211,27 @@ fn read_3(data: &[u8], self_delimited: bool, lengths: &mut [u16; 48]) -> PacketH
     read_body(data, count as usize, self_delimited, lengths)
 }
 
-// A packet of at least one byte.
+// A packet of code 2: the first frame says its length, and the second takes the rest or says its own.
+fn read_2(data: &[u8], self_delimited: bool, lengths: &mut [u16; 48]) -> PacketHead
+    requires { ⌜ (1 ≤ length (now «data»)) × (length (now «data») ≤ 65535) ⌝ }
+    requires zeros { ⌜ now lengths ≡ padded48 [] ⌝ }
+    ensures { λ r. ⌜ answerOf r (now (lengths .exit))
+        ≡ packetOf (accept (length (now («data» .entry))) (getD (now («data» .entry)) 0 0) 0
+        (unequal «self_delimited» R4 1 (drop 1 (now («data» .entry))))) ⌝ }
+{
+    let body = &data[1..];
+    let f = read_sizes(body, 1, lengths);
+    let SizesAt::All(next, sum) = f else {
+        return broken_head(Rule::R4, 1);
+    };
+    behind_toc(
+        data[0],
+        2,
+        last_frame(body, next, sum, 1, self_delimited, lengths),
+    )
+}
+
+// A packet of at least one byte. Code 3 is asked for first: most packets that come here have it.
 fn read_packet(data: &[u8], self_delimited: bool, lengths: &mut [u16; 48]) -> PacketHead
     requires { ⌜ (1 ≤ length (now «data»)) × (length (now «data») ≤ 65535) ⌝ }
     requires zeros { ⌜ now lengths ≡ padded48 [] ⌝ }
@@ -183,24 +239,18 @@ fn read_packet(data: &[u8], self_delimited: bool, lengths: &mut [u16; 48]) -> Pa
 {
     let toc = data[0];
     let code = toc % 4;
+    if code == 3 {
+        return read_3(data, self_delimited, lengths);
+    }
     let body = &data[1..];
     match code {
-        0 => behind_toc(
-            toc,
-            1,
-            unequal_frames(body, 0, Rule::R2, self_delimited, lengths),
-        ),
+        0 => behind_toc(toc, 1, last_frame(body, 0, 0, 0, self_delimited, lengths)),
         1 => behind_toc(
             toc,
             2,
             equal_frames(body, 2, Rule::R3, self_delimited, lengths),
         ),
-        2 => behind_toc(
-            toc,
-            2,
-            unequal_frames(body, 1, Rule::R4, self_delimited, lengths),
-        ),
-        _ => read_3(data, self_delimited, lengths),
+        _ => read_2(data, self_delimited, lengths),
     }
 }
 

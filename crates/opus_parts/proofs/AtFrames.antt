@@ -1,14 +1,13 @@
 -- Frames behind length fields of a slice, as the code has them: a lent array of 48 lengths, the place of the first frame, and the sum.
---     frames-cut                    unequal lengths that are not all there, or frames that are longer than what is left
+--     sizes-inside                  unequal lengths that are all there lie within the slice, and leave room for their frames
 --     rest-.., own-..               the last frame takes the rest, or says its length: one law for each `return`
 --     shared-.., each-..            equal lengths: the frames share the slice, or say their one length
 --     Within, ..-within             frames that were found lie within the slice, and are as many as asked for
---     three-equal, three-unequal    the frames of code 3 by its flag
 -- Assumes nothing.
-use Prim.Native.Nat.{ℕ, zero, suc, _+_, _*_, _-_, _/_, _%_, _≤_, _<_}
+use Prim.Native.Nat.{ℕ, _+_, _*_, _-_, _/_, _%_, _≤_, _<_}
 use native.Mathlib.Omega.{arith}
 use native.Mathlib.Nat.{div-add-mod, mul-div-le}
-use mathlib.Core.Path.{_≡_, refl, sym, ap, _∙_}
+use mathlib.Core.Path.{_≡_, sym, ap, _∙_}
 use mathlib.Core.List.{List, [], _∷_, _++_}
 use mathlib.Core.Bool.{Bool, true, false}
 use lib.Dec.{ltb, eqb}
@@ -19,16 +18,15 @@ use Rattle.opus_size.specs.Size.{mostBytes, Field, readField, noField, field}
 use Rattle.opus_size.proofs.At.{Read, nothing, something, read-at, Found}
 use Rattle.opus_format.specs.Frames.{total}
 use Rattle.opus_defines.specs.declared.Rule.{Rule}
-use Rattle.opus_defines.specs.declared.Rule.the-variants.{R2, R6, R7, R8}
+use Rattle.opus_defines.specs.declared.Rule.the-variants.{R2, R8}
 use Rattle.opus_format.specs.Reading.{Front, broken, front, ownLast, lastLength, Fields, readFields, together, behindFields}
-use Rattle.opus_format.specs.Reading.{unequal, ownEqual, equal, frames3}
+use Rattle.opus_format.specs.Reading.{unequal, ownEqual, equal}
 use Rattle.opus_format.specs.Frames.{padded48}
-use Rattle.opus_parts.specs.Parts.{sizesAt, SizesRead, FramesRead}
-use Rattle.opus_parts.specs.declared.sizes_at.SizesAt.the-variants.{All, Cut}
-use Rattle.opus_parts.specs.declared.frames_at.FramesAt.{FramesAt}
+use Rattle.opus_parts.specs.Parts.{SizesRead, FramesRead}
+use Rattle.opus_parts.specs.declared.sizes_at.SizesAt.the-variants.{All}
 use Rattle.opus_parts.specs.declared.frames_at.FramesAt.the-variants.{At, Broken}
 use Rattle.opus_format.proofs.Frames.{total-snoc, total-same}
-use Rattle.opus_parts.proofs.AtSizes.{padded-more, place-is, Known, known, none-known, Fitting, misfit, fit, fitting}
+use Rattle.opus_parts.proofs.AtSizes.{padded-more, place-is, Known, known, Fitting, misfit, fit, fitting}
 
 -- ---- frames from a place of the slice on
 -- of unequal lengths, the last of which is stored behind the others
@@ -50,10 +48,6 @@ pub sizes-inside : (s : List ℕ) (k next sum : ℕ) (lengths : List ℕ) → Si
 sizes-inside s k next sum lengths e = let all = known s k next sum lengths e in (all .inside, all .fits)
 
 module _ (s : List ℕ) (k : ℕ) (r : Rule) where
-  pub frames-cut : (sd : Bool) (place : ℕ) → Cut place ≡ sizesAt (length s) (together (readFields k s)) → (l : List ℕ)
-      → FramesRead s (unequal sd r k s) (Broken r place) l
-  frames-cut sd place e l = let b = none-known s k place e in rw (b .1) (ap (Broken r) (b .2), tt)
-
   module _ (next sum : ℕ) (lengths : List ℕ) (e : SizesRead s (together (readFields k s)) (All next sum) lengths) where
     found : Known s k next sum lengths
     found = known s k next sum lengths e
@@ -181,19 +175,3 @@ module _ (s : List ℕ) (count : ℕ) where
       (λ n t l.
       cond-elim (Within (length s) count) (ltb (length t) (count * n)) _ _ (λ e. omega arith)
       (λ e. (l, omega (arith, ltb-false (length t) (count * n) e, total-same count n), length-replicate count n)))
-
-  pub frames-within : (sd : Bool) (v : ℕ) → 1 ≤ count → Within (length s) count (frames3 sd v count s)
-  frames-within sd zero h = equal-within sd R6
-  frames-within sd (suc v) h = unequal-within sd R7 (count - 1) (omega arith)
-
--- ---- code 3, by its flag for unequal lengths
-module _ (s : List ℕ) (sd : Bool) (v count : ℕ) (f : FramesAt) (l : List ℕ) where
-  pub three-equal : v ≡ 0 → FramesRead s (equal sd R6 count s) f l → FramesRead s (frames3 sd v count s) f l
-  three-equal e g = rw e g
-
-  pub three-unequal : (v ≡ 0 → ⊥) → FramesRead s (unequal sd R7 (count - 1) s) f l → FramesRead s (frames3 sd v count s) f l
-  three-unequal n g = go v n
-    where
-      go : (v : ℕ) → (v ≡ 0 → ⊥) → FramesRead s (frames3 sd v count s) f l
-      go zero n = absurd (n refl)
-      go (suc v) n = g

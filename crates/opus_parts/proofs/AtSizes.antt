@@ -3,7 +3,8 @@
 --     padded-more, same-more       one length more in the array
 --     Sizes                        what the loop over the fields keeps, with a law for its start, a turn, and each of its ends
 --     Stops                        the same for the loop that looks for the place where they break
---     Known, known, none-known     what a caller knows of fields that were all found, and of others
+--     Known, known                 what a caller knows of fields that were all found
+--     none-known, stops-there      and of others: they break, and where
 -- Assumes nothing.
 use Prim.Native.Nat.{ℕ, zero, suc, _+_, _*_, _-_, _≤_, _<_}
 use native.Mathlib.Omega.{arith}
@@ -164,18 +165,16 @@ module _ (s : List ℕ) (k : ℕ) where
             let all : together (readFields k s) ≡ fields (z .done) (drop next s) = rw (← q, none-left h, enough) in
             (rw (all, place-is s next (z .inside), ← z .summed), rw all (z .filled))
 
-  -- the place where they break, whatever the array holds
-  stop-together : (m : ℕ) (f : Fields) → stopAt m (together f) ≡ stopAt m f
-  stop-together m (noFields t) = refl
-  stop-together m (fields ns t) = by-test (ltb (length t) (total ns)) (λ c. rw c) (λ c. rw c)
-
-  pub sizes-broken : Breaks s k → (place : ℕ) → place ≡ stopAt (length s) (readFields k s) → (l : List ℕ)
-      → SizesRead s (together (readFields k s)) (Cut place) l
-  sizes-broken b place e l =
-      let at : place ≡ length s - length (b .rest) = rw (b .means) at (e ∙ sym (stop-together (length s) (readFields k s))) in
-      rw (b .means) (ap Cut at, tt)
+  -- nothing is said of the array then
+  pub sizes-broken : Breaks s k → (l : List ℕ) → SizesRead s (together (readFields k s)) Cut l
+  sizes-broken b l = rw (b .means) (refl, tt)
 
 -- ---- the loop that looks for the place
+-- lengths that are too long only together break behind their fields
+stop-together : (m : ℕ) (f : Fields) → stopAt m (together f) ≡ stopAt m f
+stop-together m (noFields t) = refl
+stop-together m (fields ns t) = by-test (ltb (length t) (total ns)) (λ c. rw c) (λ c. rw c)
+
 stop-before : (m n : ℕ) (f : Fields) → stopAt m (before n f) ≡ stopAt m f
 stop-before m n (noFields t) = refl
 stop-before m n (fields ns t) = refl
@@ -278,11 +277,13 @@ module _ (s : List ℕ) (k : ℕ) where
             means = rw same q;
           }
 
-  -- where they break
-  pub none-known : (place : ℕ) → Cut place ≡ sizesAt (length s) (together (readFields k s))
-      → (t : List ℕ) × (together (readFields k s) ≡ noFields t) × (place ≡ length s - length t)
-  none-known place e = go (together (readFields k s)) refl
+  -- or they break, and the other loop stops there
+  pub none-known : Cut ≡ sizesAt (length s) (together (readFields k s)) → (t : List ℕ) × (together (readFields k s) ≡ noFields t)
+  none-known e = go (together (readFields k s)) refl
     where
-      go : (r : Fields) → together (readFields k s) ≡ r → (t : List ℕ) × (together (readFields k s) ≡ noFields t) × (place ≡ length s - length t)
-      go (noFields t) q = (t, q, let p = rw q at e in cc)
+      go : (r : Fields) → together (readFields k s) ≡ r → (t : List ℕ) × (together (readFields k s) ≡ noFields t)
+      go (noFields t) q = (t, q)
       go (fields ns t) q = never (let p = rw q at e in cc)
+
+  pub stops-there : (t : List ℕ) → together (readFields k s) ≡ noFields t → stopAt (length s) (readFields k s) ≡ length s - length t
+  stops-there t q = sym (stop-together (length s) (readFields k s)) ∙ ap (stopAt (length s)) q

@@ -20,7 +20,7 @@ use Rattle.opus_parts.specs.declared.padding_at.PaddingAt.the-variants.{
 
 -- ---- length fields
 abbrev pub sizesAt : ℕ → Fields → SizesAt
-sizesAt m (noFields t) = Cut (m - length t)
+sizesAt m (noFields t) = Cut
 sizesAt m (fields ns t) = All (m - length t) (total ns)
 
 abbrev pub sizesLent : Fields → List ℕ → Type 0

@@ -2,12 +2,11 @@
 ghost use mathlib.Core.Path.{_≡_};
 ghost use mathlib.Core.Bool.{true, false};
 ghost use mathlib.Core.List.{[]};
-ghost use Prim.Native.Nat.{_/_, _%_, _<_, _≤_};
-ghost use Rattle.opus_format.specs.Reading.{readFields, together, unequal, equal, frames3};
+ghost use Prim.Native.Nat.{_<_, _≤_};
+ghost use Rattle.opus_format.specs.Reading.{readFields, together, unequal, equal};
 ghost use Rattle.opus_format.specs.Frames.{padded48};
 ghost use Rattle.opus_parts.specs.Parts.{SizesRead, FramesRead};
 use crate::sizes_at::SizesAt;
-use crate::sizes_at::read_sizes;
 use crate::sizes_at::same_lengths;
 use opus_defines::Rule;
 use opus_defines::wide;
@@ -52,8 +51,8 @@ fn own_last(s: &[u8], next: usize, sum: usize, k: usize, lengths: &mut [u16; 48]
     FramesAt::At(first, total)
 }
 
-// The last of k + 1 frames by the delimiting.
-fn last_frame(
+// The last of k + 1 frames of unequal lengths, by the delimiting (codes 0 and 2, and code 3 with its flag).
+pub fn last_frame(
     s: &[u8],
     next: usize,
     sum: usize,
@@ -69,24 +68,6 @@ fn last_frame(
         own_last(s, next, sum, k, lengths)
     } else {
         rest_last(s, next, sum, k, lengths)
-    }
-}
-
-// Frames of unequal lengths: k length fields, and one frame more (codes 0 and 2, and code 3 with its flag, each with its rule).
-pub fn unequal_frames(
-    s: &[u8],
-    k: usize,
-    rule: Rule,
-    self_delimited: bool,
-    lengths: &mut [u16; 48],
-) -> FramesAt
-    requires { ⌜ (k < 48) × (now lengths ≡ padded48 []) ⌝ }
-    ensures { λ r. ⌜ FramesRead (now (s .entry)) (unequal «self_delimited» rule k (now (s .entry))) r (now (lengths .exit)) ⌝ }
-{
-    let f = read_sizes(s, k, lengths);
-    match f {
-        SizesAt::Cut(place) => FramesAt::Broken(rule, place),
-        SizesAt::All(next, sum) => last_frame(s, next, sum, k, self_delimited, lengths),
     }
 }
 
@@ -140,21 +121,4 @@ pub fn equal_frames(
     } else {
         shared_equal(s, count, rule, lengths)
     }
-}
-
-// The frames of code 3, of which the count byte says whether the lengths are unequal.
-pub fn frames_3(
-    s: &[u8],
-    count_byte: u8,
-    count: usize,
-    self_delimited: bool,
-    lengths: &mut [u16; 48],
-) -> FramesAt
-    requires { ⌜ (1 ≤ count) × (count ≤ 48) × (now lengths ≡ padded48 []) ⌝ }
-    ensures { λ r. ⌜ FramesRead (now (s .entry)) (frames3 «self_delimited» («count_byte» / 128 % 2) count (now (s .entry))) r (now (lengths .exit)) ⌝ }
-{
-    if count_byte / 128 % 2 == 0 {
-        return equal_frames(s, count, Rule::R6, self_delimited, lengths);
-    }
-    unequal_frames(s, count - 1, Rule::R7, self_delimited, lengths)
 }

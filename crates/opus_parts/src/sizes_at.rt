@@ -9,14 +9,15 @@ ghost use Rattle.opus_parts.specs.Parts.{SizesRead, stopAt};
 use opus_defines::wide;
 use opus_size::SizeAt;
 
-// Several length fields at the front of a slice: the place behind them and the sum of the lengths, or the place where they break.
+// Several length fields at the front of a slice: the place behind them and the sum of the lengths, or that they break somewhere.
 pub enum SizesAt {
     All(usize, usize),
-    Cut(usize),
+    Cut,
 }
 
-// Where k length fields break: at the first that is not whole or above what stands behind it, else behind them. For refused packets alone.
-fn break_at(s: &[u8], k: usize) -> usize
+// Where k length fields break: at the first that is not whole or above what stands behind it, else behind them. For refused packets alone, and
+// called from one place only: where it stands in the reader, the reader is no longer compiled as one function, which costs every packet.
+pub fn break_at(s: &[u8], k: usize) -> usize
     ensures { λ r. ⌜ r ≡ stopAt (length (now (s .entry))) (readFields k (now (s .entry))) ⌝ }
 {
     let mut next: usize = 0;
@@ -35,7 +36,7 @@ fn break_at(s: &[u8], k: usize) -> usize
     next
 }
 
-// No length is tested by itself: where the sum fits, each does, and where it does not, `break_at` looks for the place.
+// No length is tested by itself: where the sum fits, each does, and where it does not, the caller looks for the place (`break_at`).
 pub fn read_sizes(s: &[u8], k: usize, lengths: &mut [u16; 48]) -> SizesAt
     requires { ⌜ (k < 48) × (now lengths ≡ padded48 []) ⌝ }
     ensures { λ r. ⌜ SizesRead (now (s .entry)) (together (readFields k (now (s .entry)))) r (now (lengths .exit)) ⌝ }
@@ -46,7 +47,7 @@ pub fn read_sizes(s: &[u8], k: usize, lengths: &mut [u16; 48]) -> SizesAt
     while i < k {
         let f = opus_size::size_at(s, next);
         let SizeAt::Whole(size, after) = f else {
-            return SizesAt::Cut(break_at(s, k));
+            return SizesAt::Cut;
         };
         lengths[i] = size;
         total += wide(size);
@@ -54,7 +55,7 @@ pub fn read_sizes(s: &[u8], k: usize, lengths: &mut [u16; 48]) -> SizesAt
         i += 1;
     }
     if s.len() - next < total {
-        return SizesAt::Cut(break_at(s, k));
+        return SizesAt::Cut;
     }
     SizesAt::All(next, total)
 }

@@ -405,13 +405,15 @@ fn add_read(
 ) -> AddedHead
     requires collector { ⌜ (length (now len) ≡ 48) × (sound (collectorOf h (now len)) ≡ true)
         × (at ≡ total (heldLengths (collectorOf h (now len)))) × (leastStore ≤ length (now store)) ⌝ }
-    requires short { ⌜ length (now «data») ≤ 65535 ⌝ }
     ensures answer { λ r. ⌜ addedOf r (now (len .exit))
         ≡ addPacket «self_delimited» (collectorOf h (now (len .entry))) (now («data» .entry)) (now (store .entry)) .answer ⌝ }
     ensures bytes { λ _. ⌜ now (store .exit)
         ≡ addPacket «self_delimited» (collectorOf h (now (len .entry))) (now («data» .entry)) (now (store .entry)) .store ⌝ }
     ensures few { λ r. ⌜ r .count < 65536 ⌝ }
 {
+    if opus::MOST_PACKET < data.len() {
+        return refused_add(Refusal::BadArg, h);
+    }
     let mut lengths = [0u16; 48];
     let p = opus::read_into(data, self_delimited, &mut lengths);
     let v = p.verdict;
@@ -423,7 +425,8 @@ fn add_read(
     refused_add(why_not(h, data, e), h)
 }
 
-// Adds a packet to a sound collector: an ordinary one of code 0, 1 or 2 without an array for its lengths.
+// Adds a packet to a sound collector: an ordinary one of code 0, 1 or 2 without an array for its lengths. One that breaks a rule, or is over 65,535 bytes
+// long, is left to `add_read` to refuse, so that this way has no refusal to carry.
 fn add_packet(
     h: Head,
     len: &mut [u16],
@@ -440,9 +443,6 @@ fn add_packet(
         ≡ addPacket «self_delimited» (collectorOf h (now (len .entry))) (now («data» .entry)) (now (store .entry)) .store ⌝ }
     ensures few { λ r. ⌜ r .count < 65536 ⌝ }
 {
-    if opus::MOST_PACKET < data.len() {
-        return refused_add(Refusal::BadArg, h);
-    }
     if self_delimited {
         return add_read(h, len, at, data, true, store);
     }
@@ -450,10 +450,7 @@ fn add_packet(
     match s {
         Short::One(n, first) => add_one(h, len, at, data[0], n, data, first, store),
         Short::Two(m, n, first) => add_two(h, len, at, data[0], m, n, data, first, store),
-        Short::Broken(rule, place) => {
-            refused_add(why_not(h, data, opus_defines::rule_refusal(rule, place)), h)
-        }
-        Short::Counted => add_read(h, len, at, data, false, store),
+        _ => add_read(h, len, at, data, false, store),
     }
 }
 

@@ -1,31 +1,20 @@
 -- `repacketizer::add_packet` meets its contract: what was read of one frame or two is added, and any other packet is read whole.
 -- Assumes nothing.
-use Prim.Native.Nat.{_≤_}
-use mathlib.Core.Path.{_≡_, ap, _∙_}
 use mathlib.Core.Bool.{false}
 use mathlib.Core.List.{[], _∷_}
 use native.Mathlib.Omega.{arith}
 use borrow.Author.Needs.{needs}
 use Rattle.laws.specs.Bytes.{Bytes}
-use Rattle.opus_format.specs.Reading.{refused, read}
-use Rattle.opus_format.proofs.Within.{refused-within}
-use Rattle.opus.proofs.AtShort.{ShortRead, one-read, two-read, none-read}
-use Rattle.repacketizer.specs.Parts.{collectorOf, whyNot}
-use Rattle.repacketizer.proofs.Adds.{head-few, add-long, add-refused, add-read, why-refused, refused-as}
+use Rattle.opus.proofs.AtShort.{ShortRead, one-read, two-read}
+use Rattle.repacketizer.specs.Parts.{collectorOf}
+use Rattle.repacketizer.proofs.Adds.{add-read}
 use Rattle.repacketizer.proofs.add_packet.Statement.{statement}
 use Rattle.repacketizer.proofs.add_packet.Tie as tie
 
 returns : tie.Need-returns
 returns c =
-    let v = c .before .before .before in
-    let a = v .before .before .args in
-    let rp = collectorOf (a .h) (a .len .now) in
-    refused-as (add-long (a .self-delimited) rp (a .«data» .now) (a .store .now) (c .before .if1 .taken)) (c .refused-add .ensures)
-
-returns-2 : tie.Need-returns-2
-returns-2 c =
     let r = c .before .before .before .before in
-    rw (r .before .before .before .if2 .taken) (r .add-read .ensures)
+    rw (r .before .before .before .if1 .taken) (r .add-read .ensures)
 
 -- the packet is a list of bytes
 bytes : (c : tie.After-shared-slice-known) → Bytes (c .before .before .args .«data» .now)
@@ -33,7 +22,7 @@ bytes c = record { byte = λ i. c .shared-slice-known .given i .fits }
 
 -- where its bytes are known, and the entry
 abbrev known : tie.After-short-at → tie.After-shared-slice-known
-known c = c .before .before .before .before
+known c = c .before .before .before
 
 abbrev entry : tie.After-short-at → tie.Start
 entry c = known c .before .before
@@ -56,15 +45,14 @@ add-one-requires c κs =
     let f = one t .known in
     (entry (t .before .before) .pre, (f .small, omega (arith, f .block, f .within)))
 
-returns-3 : tie.Need-returns-3
-returns-3 c =
+returns-2 : tie.Need-returns-2
+returns-2 c =
     let b = c .before .before .before .before in
     let t = b .before .before .before .before .before in
     let k = t .before .before in
-    let i = k .before in
     let a = entry k .args in
     let rp = collectorOf (a .h) (a .len .now) in
-    rw (i .if2 .left, add-read false rp (a .«data» .now) (a .store .now) _ _ _ (one t .taken) (bytes (known k)) (i .before .if1 .left) (one t .means))
+    rw (k .before .if1 .left, add-read false rp (a .«data» .now) (a .store .now) _ _ _ (one t .taken) (bytes (known k)) (one t .short) (one t .means))
     (b .add-one .ensures)
 
 two : (c : tie.After-s2)
@@ -85,66 +73,29 @@ add-two-requires c κs =
     let f = two t .known in
     (entry (t .before .before) .pre, (f .small, omega (arith, f .block, f .within)))
 
-returns-4 : tie.Need-returns-4
-returns-4 c =
+returns-3 : tie.Need-returns-3
+returns-3 c =
     let b = c .before .before .before .before in
     let t = b .before .before .before .before .before in
     let k = t .before .before in
-    let i = k .before in
     let a = entry k .args in
     let rp = collectorOf (a .h) (a .len .now) in
-    rw (i .if2 .left, add-read false rp (a .«data» .now) (a .store .now) _ _ _ (two t .taken) (bytes (known k)) (i .before .if1 .left) (two t .means))
+    rw (k .before .if1 .left, add-read false rp (a .«data» .now) (a .store .now) _ _ _ (two t .taken) (bytes (known k)) (two t .short) (two t .means))
     (b .add-two .ensures)
 
--- a packet that breaks a rule
-none : (c : tie.After-s3)
-    → let k = c .before .before in
-    read false (entry k .args .«data» .now) ≡ refused (c .s3 .given .0 .0) (c .s3 .given .0 .1 .0)
-none c =
-    let k = c .before .before in
-    none-read (entry k .args .«data» .now) (bytes (known k)) (k .short-at .result) (k .short-at .ensures) _ _ (c .s3 .given .1)
-
-rule-refusal-requires : tie.Need-rule-refusal-requires
-rule-refusal-requires c κs =
-    let t = c .before in
-    let k = t .before .before in
-    omega (arith, refused-within false (entry k .args .«data» .now) _ _ (none t), k .before .before .if1 .left)
-
--- the frames held are at most 48
-few : (c : tie.Start) → c .args .h .«nb_frames» ≤ 48
-few c = head-few (c .args .h) (c .args .len .now) (search needs) (c .pre .0) (c .pre .1)
-
-why-not-requires : tie.Need-why-not-requires
-why-not-requires c κs = few (entry (c .before .before .before .before))
-
-returns-5 : tie.Need-returns-5
-returns-5 c =
-    let w = c .before in
-    let t = w .before .before .before in
-    let k = t .before .before in
-    let i = k .before in
-    let a = entry k .args in
-    let rp = collectorOf (a .h) (a .len .now) in
-    let refused = add-refused false rp (a .«data» .now) (a .store .now) _ _ (i .before .if1 .left) (none t) in
-    let same = w .why-not .ensures ∙ ap (whyNot (collectorOf (a .h) []) (a .«data» .now)) (w .before .rule-refusal .ensures) in
-    rw (i .if2 .left)
-    (refused-as (why-refused (a .h) (a .len .now) (a .«data» .now) (a .store .now) _ same refused) (c .refused-add2 .ensures))
-
-returns-6 : tie.Need-returns-6
-returns-6 c =
+returns-4 : tie.Need-returns-4
+returns-4 c =
     let r = c .before .before .before .before in
-    rw (r .before .before .before .before .before .before .if2 .left) (r .add-read2 .ensures)
+    rw (r .before .before .before .before .before .if1 .left) (r .add-read2 .ensures)
 
 pub add-packet-spec : {M : Type 1} → statement M
 add-packet-spec =
     tie.close
     (tie.spec
     (λ c κs. search needs)
+    (λ c. search needs)
+    (λ c. search needs)
     returns
-    (λ c κs. search needs)
-    (λ c. search needs)
-    (λ c. search needs)
-    returns-2
     (λ c κs. search needs)
     (λ c. search needs)
     shared-slice-read-add-one
@@ -152,19 +103,13 @@ add-packet-spec =
     (λ c. search needs)
     shared-slice-read-add-two
     add-two-requires
-    (λ c. search needs)
-    rule-refusal-requires
-    why-not-requires
     (λ c κs. search needs)
     (λ c. search needs)
-    (λ c κs. search needs)
+    (λ c. search needs)
+    returns-2
     (λ c. search needs)
     (λ c. search needs)
     returns-3
     (λ c. search needs)
     (λ c. search needs)
-    returns-4
-    returns-5
-    (λ c. search needs)
-    (λ c. search needs)
-    returns-6)
+    returns-4)

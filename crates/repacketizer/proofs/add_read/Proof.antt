@@ -1,4 +1,4 @@
--- `repacketizer::add_read` meets its contract: the frames that were read are added as one block.
+-- `repacketizer::add_read` meets its contract: by the test on the length; the frames that were read are added as one block.
 -- Assumes nothing.
 use Prim.Native.Nat.{_≤_}
 use mathlib.Core.Path.{sym}
@@ -11,13 +11,19 @@ use Rattle.opus.proofs.Parsed.{Read, lengthsOf}
 use Rattle.opus.proofs.Lent.{packetWith}
 use Rattle.repacketizer.specs.Parts.{collectorOf}
 use Rattle.repacketizer.proofs.Parsed.{lent-read, lent-refused}
-use Rattle.repacketizer.proofs.Adds.{head-few, add-read, why-refused, refused-as}
+use Rattle.repacketizer.proofs.Adds.{head-few, add-long, add-read, why-refused, refused-as}
 use Rattle.repacketizer.proofs.add_read.Statement.{statement}
 use Rattle.repacketizer.proofs.add_read.Tie as tie
 
+returns : tie.Need-returns
+returns c =
+    let a = c .before .before .before .before .before .args in
+    let rp = collectorOf (a .h) (a .len .now) in
+    refused-as (add-long (a .self-delimited) rp (a .«data» .now) (a .store .now) (c .before .if1 .taken)) (c .refused-add .ensures)
+
 -- where the packet's bytes are known, and the entry
 abbrev known : tie.After-read-into → tie.After-shared-slice-known
-known c = c .before .before .before
+known c = c .before .before .before .before
 
 abbrev entry : tie.After-read-into → tie.Start
 entry c = known c .before .before
@@ -47,10 +53,10 @@ add-block-requires c κs =
     let q = packetWith (r .read-into .result) (r .read-into .last .1 .1 .0) in
     let bytes : Bytes (s .args .«data» .now) = record { byte = λ i. k .shared-slice-known .given i .fits } in
     let f = facts (s .args .self-delimited) (s .args .«data» .now) (q .toc) (lengthsOf q) (q .first) (q .taken) bytes (reading t .means) in
-    (s .pre .0, (f .some, f .few, f .small, omega (arith, f .block, f .within)))
+    (s .pre, (f .some, f .few, f .small, omega (arith, f .block, f .within)))
 
-returns : tie.Need-returns
-returns c =
+returns-2 : tie.Need-returns-2
+returns-2 c =
     let b = c .before .before .before .before in
     let t = b .before .before .before .before in
     let r = t .before .before in
@@ -63,27 +69,29 @@ returns c =
 
 -- the frames held are at most 48
 few : (c : tie.Start) → c .args .h .«nb_frames» ≤ 48
-few c = head-few (c .args .h) (c .args .len .now) (search needs) (c .pre .0 .0) (c .pre .0 .1)
+few c = head-few (c .args .h) (c .args .len .now) (search needs) (c .pre .0) (c .pre .1)
 
 why-not-requires : tie.Need-why-not-requires
 why-not-requires c κs = few (entry (c .before .before .before))
 
-returns-2 : tie.Need-returns-2
-returns-2 c =
+returns-3 : tie.Need-returns-3
+returns-3 c =
     let v = c .before .before .before in
     let r = v .before .before in
-    let s = entry r in
-    let a = s .args in
+    let a = entry r .args in
     let lent = r .read-into .last .1 .1 .0 in
+    let short = r .before .before .if1 .left in
     let rp = collectorOf (a .h) (a .len .now) in
     let refused =
-    lent-refused (a .self-delimited) (a .«data» .now) (r .read-into .result) lent (r .read-into .ensures) (s .pre .1) (v .v .given .1) rp (a .store .now) in
-    refused-as (why-refused (a .h) (a .len .now) (a .«data» .now) (a .store .now) _ (c .before .why-not .ensures) refused) (c .refused-add .ensures)
+    lent-refused (a .self-delimited) (a .«data» .now) (r .read-into .result) lent (r .read-into .ensures) short (v .v .given .1) rp (a .store .now) in
+    refused-as (why-refused (a .h) (a .len .now) (a .«data» .now) (a .store .now) _ (c .before .why-not .ensures) refused) (c .refused-add2 .ensures)
 
 pub add-read-spec : {M : Type 1} → statement M
 add-read-spec =
     tie.close
     (tie.spec
+    (λ c κs. search needs)
+    returns
     (λ c κs. search needs)
     (λ c. search needs)
     (λ c. search needs)
@@ -92,7 +100,7 @@ add-read-spec =
     add-block-requires
     (λ c. search needs)
     (λ c. search needs)
-    returns
+    returns-2
     why-not-requires
     (λ c κs. search needs)
-    returns-2)
+    returns-3)

@@ -8,9 +8,9 @@ use Rattle.aveluafi.proofs.Records.{read-few, record-read, record-unrea
 use Rattle.aveluafi.proofs.reading.aveluafi_packet_parse_impl.Statement.{statement}
 use Rattle.aveluafi.proofs.reading.aveluafi_packet_parse_impl.Tie as tie
 
-cast-t9 : tie.Need-cast-t9
-cast-t9 c =
-    let p = c .before .before .before in
+whole-packet-requires : tie.Need-whole-packet-requires
+whole-packet-requires c κs =
+    let p = c .before .before in
     let r = p .read-into in
     let k = p .before .before in
     let a = k .before .args in
@@ -19,11 +19,11 @@ cast-t9 c =
 
 returns : tie.Need-returns
 returns c =
-    let p = c .before .before .before .before in
+    let p = c .before .before .before in
     let r = p .read-into in
     let a = p .before .before .before .args in
-    let accepted = c .before .before .enum-told .given .1 in
-    record-read (a .self-delimited) (a .«data» .now) (r .result) (r .last .1 .1 .0) (r .ensures) accepted (c .report-of .ensures)
+    c .whole-packet .ensures
+    ∙ record-read (a .self-delimited) (a .«data» .now) (r .result) (r .last .1 .1 .0) (r .ensures) (c .before .enum-told .given .1)
 
 returns-2 : tie.Need-returns-2
 returns-2 c =
@@ -39,8 +39,7 @@ aveluafi-packet-parse-impl-spec =
     (λ c κs. search needs)
     (λ c. search needs)
     (λ c. search needs)
-    cast-t9
-    (λ c κs. search needs)
+    whole-packet-requires
     returns
     (λ c κs. search needs)
     returns-2)

@@ -20,9 +20,9 @@ loop-holds c = sizes-start _ _ _ (c .before .pre .1)
 
 returns : tie.Need-returns Inv-loop μ-loop
 returns c =
-    let f = c .before .before .before in
-    let cut = short-was _ _ (sym (f .size-at .ensures) ∙ c .before .enum-told .given .1) in
-    sizes-broken _ _ (sizes-cut _ _ _ _ _ _ (f .before .before .loop .inv) (search needs) cut) _ (c .break-at .ensures) _
+    let f = c .before .before in
+    let cut = short-was _ _ (sym (f .size-at .ensures) ∙ c .enum-told .given .1) in
+    sizes-broken _ _ (sizes-cut _ _ _ _ _ _ (f .before .before .loop .inv) (search needs) cut) _
 
 loop-again : tie.Need-loop-again Inv-loop μ-loop
 loop-again c =
@@ -35,9 +35,7 @@ sub-if1 : tie.Need-sub-if1 Inv-loop μ-loop
 sub-if1 c = c .before .loop .inv .inside
 
 returns-2 : tie.Need-returns-2 Inv-loop μ-loop
-returns-2 c =
-    let i = c .before in
-    sizes-broken _ _ (sizes-over _ _ _ _ _ _ (i .before .before .loop .inv) (search needs) (i .if1 .taken)) _ (c .break-at2 .ensures) _
+returns-2 c = sizes-broken _ _ (sizes-over _ _ _ _ _ _ (c .before .before .loop .inv) (search needs) (c .if1 .taken)) _
 
 returns-3 : tie.Need-returns-3 Inv-loop μ-loop
 returns-3 c = sizes-end _ _ _ _ _ _ (c .before .before .loop .inv) (search needs) (c .if1 .left)
@@ -52,7 +50,6 @@ read-sizes-spec =
     (λ c κs. search needs)
     (λ c. search needs)
     (λ c. search needs)
-    (λ c κs. search needs)
     returns
     (λ c. search needs)
     (λ c. search needs)
@@ -62,6 +59,5 @@ read-sizes-spec =
     (λ c. search needs)
     loop-again
     sub-if1
-    (λ c κs. search needs)
     returns-2
     returns-3)
