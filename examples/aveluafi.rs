@@ -26,6 +26,8 @@ pub enum Refusal {
         place: u16,
     },
     InvalidState,
+    /// A strict add: a padding byte is not zero.
+    DirtyPadding,
     /// A number that this file does not know: the archive that was linked is of another version.
     Unknown(i32),
 }
@@ -38,6 +40,7 @@ impl Refusal {
             Refusal::BufferTooSmall => -2,
             Refusal::InvalidPacket | Refusal::Unreadable { .. } => -4,
             Refusal::InvalidState => -6,
+            Refusal::DirtyPadding => -20,
             Refusal::Unknown(number) => number,
         }
     }
@@ -51,6 +54,7 @@ impl fmt::Display for Refusal {
             Refusal::InvalidPacket => write!(f, "invalid packet: it does not go with the frames held"),
             Refusal::Unreadable { rule, place } => write!(f, "invalid packet: RFC 6716 rule R{rule} at byte {place}"),
             Refusal::InvalidState => write!(f, "invalid state of the collector"),
+            Refusal::DirtyPadding => write!(f, "dirty padding: a padding byte is not zero"),
             Refusal::Unknown(number) => write!(f, "refused by {number}, a number of another version"),
         }
     }
@@ -65,6 +69,7 @@ fn answer(number: i32) -> Result<usize, Refusal> {
         -2 => Err(Refusal::BufferTooSmall),
         -4 => Err(Refusal::InvalidPacket),
         -6 => Err(Refusal::InvalidState),
+        -20 => Err(Refusal::DirtyPadding),
         _ => Err(Refusal::Unknown(number)),
     }
 }
@@ -124,6 +129,7 @@ extern "C" {
     fn aveluafi_packet_parse_impl(data: *const u8, data_len: usize, self_delimited: bool) -> Packet;
     fn aveluafi_repacketizer_init(rp: *mut Repacketizer);
     fn aveluafi_repacketizer_cat(rp: *mut Repacketizer, data: *const u8, data_len: usize, store: *mut u8, store_len: usize) -> Report;
+    fn aveluafi_repacketizer_cat_strict(rp: *mut Repacketizer, data: *const u8, data_len: usize, store: *mut u8, store_len: usize) -> Report;
     fn aveluafi_repacketizer_get_nb_frames(rp: *const Repacketizer) -> i32;
     fn aveluafi_repacketizer_out(rp: *const Repacketizer, store: *const u8, store_len: usize, data: *mut u8, data_len: usize) -> i32;
     fn aveluafi_repacketizer_out_range(
@@ -190,6 +196,11 @@ impl<'a> Collector<'a> {
     pub fn add(&mut self, packet: &[u8]) -> Result<(), Refusal> {
         let (store, n) = (self.store.as_mut_ptr(), self.store.len());
         reported(unsafe { aveluafi_repacketizer_cat(&mut self.rp, packet.as_ptr(), packet.len(), store, n) }).map(|_| ())
+    }
+    /// The same, but that a packet with a padding byte other than zero is refused, last of all.
+    pub fn add_strict(&mut self, packet: &[u8]) -> Result<(), Refusal> {
+        let (store, n) = (self.store.as_mut_ptr(), self.store.len());
+        reported(unsafe { aveluafi_repacketizer_cat_strict(&mut self.rp, packet.as_ptr(), packet.len(), store, n) }).map(|_| ())
     }
     pub fn held(&self) -> usize {
         answer(unsafe { aveluafi_repacketizer_get_nb_frames(&self.rp) }).unwrap_or(0)

@@ -1,4 +1,4 @@
-/* Packs three packets into one, sees two others refused, pads and strips the packet in place, reads its frames back and cuts one out again, over
+/* Packs three packets into one, sees three others refused, pads and strips the packet in place, reads its frames back and cuts one out again, over
  * include/aveluafi.h. examples/run builds and runs it; pack.rs does the same in Rust and prints the same text. */
 #include "aveluafi.h"
 
@@ -72,6 +72,11 @@ int main(void) {
     static const uint8_t broken[2] = {TOC | 2, 252};
     r = aveluafi_repacketizer_cat(&rp, broken, sizeof broken, store, sizeof store);
     printf("refused a packet that is cut short: invalid packet: RFC 6716 rule R%d at byte %d\n", r.rule, r.place);
+
+    /* A strict add refuses a packet whose padding is not zeros, which packing would drop: one frame of one byte, and one padding byte, 07. */
+    static const uint8_t dirty[5] = {TOC | 3, 0x41, 1, 0xaa, 0x07};
+    r = aveluafi_repacketizer_cat_strict(&rp, dirty, sizeof dirty, store, sizeof store);
+    printf("refused a packet with dirty padding: %d, still %d frames held\n", (int)r.number, (int)aveluafi_repacketizer_get_nb_frames(&rp));
 
     /* All frames held, as one packet in its shortest form. */
     int32_t packed = need("out", aveluafi_repacketizer_out(&rp, store, sizeof store, buffer, sizeof buffer));

@@ -1,4 +1,4 @@
-//! Packs three packets into one, sees two others refused, pads and strips the packet in place, reads its frames back and cuts one out again,
+//! Packs three packets into one, sees three others refused, pads and strips the packet in place, reads its frames back and cuts one out again,
 //! through the safe wrapper in aveluafi.rs. examples/run builds and runs it; pack.c does the same in C and prints the same text.
 
 #[allow(dead_code)]
@@ -49,6 +49,11 @@ fn main() -> Result<(), Refusal> {
     // A packet that cannot be read: the rule that it breaks, and the byte. Here the length of the first of two frames is cut short.
     if let Err(refusal) = collector.add(&[TOC | 2, 252]) {
         println!("refused a packet that is cut short: {}", refusal);
+    }
+
+    // A strict add refuses a packet whose padding is not zeros, which packing would drop: one frame of one byte, and one padding byte, 07.
+    if let Err(refusal) = collector.add_strict(&[TOC | 3, 0x41, 1, 0xaa, 0x07]) {
+        println!("refused a packet with dirty padding: {}, still {} frames held", refusal.number(), collector.held());
     }
 
     // All frames held, as one packet in its shortest form.

@@ -30,7 +30,8 @@ extern "C" {
 /* ---- the version of this header
  *
  * At start, compare: `if (aveluafi_version() != AVELUAFI_VERSION)` the archive that was linked is not the one that this header declares, and
- * nothing that it answers can be relied on. The number is raised whenever a declaration here changes.
+ * nothing that it answers can be relied on. The number is raised whenever a declaration here changes. A call that is added raises nothing: an archive
+ * without it does not link.
  *
  * 2: a refusal names the rule of RFC 6716 and the byte. aveluafi_repacketizer_cat, pad, unpad and their multistream kin answer a struct aveluafi_report
  *    in the place of a number; struct aveluafi_packet and struct aveluafi_size have rule and place, in another order; aveluafi_parse_size is told a rule.
@@ -48,6 +49,7 @@ int32_t aveluafi_version(void);
 #define AVELUAFI_BUFFER_TOO_SMALL (-2) /* the output is longer than the destination */
 #define AVELUAFI_INVALID_PACKET (-4)  /* the packet breaks a rule of RFC 6716; its upper six TOC bits are not those held; over 120 ms held */
 #define AVELUAFI_INVALID_STATE (-6)   /* the collector was not made by these calls, or was written over */
+#define AVELUAFI_DIRTY_PADDING (-20)  /* a strict add: a padding byte is not zero */
 
 /* ---- rule and place: which rule of RFC 6716, section 3.4, a packet breaks, and where
  *
@@ -148,6 +150,11 @@ void aveluafi_repacketizer_init(struct aveluafi_repacketizer *rp);
 /* Adds an ordinary packet, and answers 0. -4 without a rule for one whose upper six TOC bits are not those held, broken or not, or that would make the
  * frames held last over 120 ms; -4 with rule and place for one that cannot be read. */
 struct aveluafi_report aveluafi_repacketizer_cat(struct aveluafi_repacketizer *rp, const uint8_t *data, size_t data_len, uint8_t *store, size_t store_len);
+
+/* The same, but that a packet is refused by -20, last of all, if one of its padding bytes is not zero: the bytes behind its frames, not the padding lengths.
+ * RFC 6716, 3.2.5, has them zero, and packing drops them; a recorder that writes something there loses it. Strict and ordinary adds may be mixed. */
+struct aveluafi_report aveluafi_repacketizer_cat_strict(struct aveluafi_repacketizer *rp, const uint8_t *data, size_t data_len, uint8_t *store,
+                                                        size_t store_len);
 
 /* The frames held. */
 int32_t aveluafi_repacketizer_get_nb_frames(const struct aveluafi_repacketizer *rp);

@@ -73,6 +73,46 @@ static void agree(const struct aveluafi_repacketizer *rp, Bytes store, int32_t b
     free(b.at);
 }
 
+static bool same_collector(const struct aveluafi_repacketizer *a, const struct aveluafi_repacketizer *b) {
+    return a->toc == b->toc && a->nb_frames == b->nb_frames && a->framesize == b->framesize && memcmp(a->len, b->len, sizeof a->len) == 0;
+}
+
+// Whether a packet that can be read has a byte other than zero behind its frames.
+static bool dirty(Bytes p) {
+    struct aveluafi_packet r = aveluafi_packet_parse(p.at, p.len);
+    size_t at = r.payload_offset;
+    for (int i = 0; i < r.number; i++) {
+        at += r.lengths[i];
+    }
+    for (; r.number > 0 && at < r.packet_offset; at++) {
+        if (p.at[at] != 0) {
+            return true;
+        }
+    }
+    return false;
+}
+
+// An ordinary add, held against a strict one to a copy of the collector: the same number, rule, place, collector and store, or -20 and nothing changed, where
+// the packet is accepted and dirty.
+static int add(struct aveluafi_repacketizer *rp, Bytes p, Bytes store) {
+    struct aveluafi_repacketizer before = *rp, strict = *rp;
+    Bytes kept = block(store.len, 0), other = block(store.len, 0);
+    memcpy(kept.at, store.at, store.len);
+    memcpy(other.at, store.at, store.len);
+    struct aveluafi_report r = aveluafi_repacketizer_cat(rp, p.at, p.len, store.at, store.len);
+    struct aveluafi_report s = aveluafi_repacketizer_cat_strict(&strict, p.at, p.len, other.at, other.len);
+    if (r.number == AVELUAFI_OK && dirty(p)) {
+        require(s.number == AVELUAFI_DIRTY_PADDING && s.rule == 0 && s.place == 0, "aveluafi_repacketizer_cat_strict: dirty padding is not -20");
+        require(same_collector(&strict, &before) && memcmp(other.at, kept.at, store.len) == 0, "aveluafi_repacketizer_cat_strict: -20, and something changed");
+    } else {
+        require(s.number == r.number && s.rule == r.rule && s.place == r.place, "aveluafi_repacketizer_cat_strict answers another number, rule or place");
+        require(same_collector(&strict, rp) && memcmp(other.at, store.at, store.len) == 0, "aveluafi_repacketizer_cat_strict leaves something else");
+    }
+    free(kept.at);
+    free(other.at);
+    return number_of(r, p.len);
+}
+
 // Each packet is written over once it is added: the archive promises that it is needed no longer.
 static void collect(Collection *c) {
     struct aveluafi_repacketizer rp;
@@ -80,7 +120,7 @@ static void collect(Collection *c) {
     aveluafi_repacketizer_init(&rp);
     Bytes store = block(AVELUAFI_LEAST_STORE, 0xcc);
     for (int i = 0; i < c->count; i++) {
-        c->added[i] = number_of(aveluafi_repacketizer_cat(&rp, c->packets[i].at, c->packets[i].len, store.at, store.len), c->packets[i].len);
+        c->added[i] = add(&rp, c->packets[i], store);
         memset(c->packets[i].at, 0x99, c->packets[i].len);
     }
     c->held = aveluafi_repacketizer_get_nb_frames(&rp);

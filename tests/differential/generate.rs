@@ -1,5 +1,6 @@
 // Writes cases of the replay protocol to standard output: `generate SEED COUNT` for so many random ones, `generate short` for every packet of 0, 1 and
 // 2 bytes through every call. `generate places ..`: the same for the kinds that tell rule and place, with packets that break a rule more often than not.
+// `generate strict SEED COUNT`: adds of kind 18, strict and ordinary, of packets with clean padding and with dirty.
 // `generate stages SEED COUNT` writes so many packets to be padded in two steps (tests/stages). The same seed and count give the same bytes.
 use std::io::Write;
 
@@ -620,6 +621,47 @@ fn adds_with_places(r: &mut Random, out: &mut Vec<u8>) {
     }
 }
 
+// A packet of code 3 whose padding is zeros but for at most one byte: the first, the last or any.
+fn spotted(r: &mut Random, six: u8) -> Vec<u8> {
+    let most = (5760 / samples(six)).min(3);
+    let count = r.between(1, most);
+    let pad = r.pick(&[0, 1, 1, 2, 3, 15, 16, 17, 31, 32, 33, 64, 253, 254, 255, 256, 509]);
+    let size = r.pick(&[0, 1, 2, 20]);
+    let mut p = vec![six | 3, count as u8 | 0x40];
+    chain(&mut p, r, pad);
+    p.extend(r.bytes(count * size));
+    let first = p.len();
+    p.resize(first + pad, 0);
+    if pad > 0 && r.chance(70) {
+        let at = match r.below(3) {
+            0 => first,
+            1 => first + pad - 1,
+            _ => first + r.below(pad),
+        };
+        p[at] = r.pick(&[1, 2, 0x80, 0xff]);
+    }
+    p
+}
+
+// Adds to any collector, each strict or ordinary.
+fn adds_of_kinds(r: &mut Random, out: &mut Vec<u8>) {
+    let six = if r.chance(25) { 0x80 } else { r.byte() & 0xfc };
+    out.push(18);
+    held_state(r, out, six);
+    let n = r.between(0, 5);
+    out.push(n as u8);
+    for _ in 0..n {
+        let kind = if r.chance(85) { six } else { six ^ r.pick(&[4, 8, 16, 32, 64, 128]) };
+        out.push(if r.chance(75) { r.pick(&[1, 1, 2, 255]) } else { 0 });
+        let p = match r.below(10) {
+            0 => broken(r, false, Some(kind)),
+            1..=4 => packet_within(r, false, kind, 2, 20),
+            _ => spotted(r, kind),
+        };
+        put_bytes(out, &p);
+    }
+}
+
 fn place_case(r: &mut Random, out: &mut Vec<u8>) {
     match r.below(20) {
         0..=7 => {
@@ -782,9 +824,10 @@ fn main() {
         return;
     }
     let staged = words.len() == 3 && words[0] == "stages";
-    let numbers: Option<Vec<u64>> = words[(staged || places) as usize..].iter().map(|w| w.parse().ok()).collect();
+    let strict = words.len() == 3 && words[0] == "strict";
+    let numbers: Option<Vec<u64>> = words[(staged || strict || places) as usize..].iter().map(|w| w.parse().ok()).collect();
     let Some([seed, count]) = numbers.as_deref() else {
-        eprintln!("usage: generate [places | stages] SEED COUNT | generate [places] short");
+        eprintln!("usage: generate [places | stages | strict] SEED COUNT | generate [places] short");
         std::process::exit(2);
     };
     // a seed of 0 would stay 0
@@ -792,6 +835,8 @@ fn main() {
     for _ in 0..*count {
         if staged {
             stages(&mut r, &mut out);
+        } else if strict {
+            adds_of_kinds(&mut r, &mut out);
         } else if places {
             place_case(&mut r, &mut out);
         } else {

@@ -1,9 +1,10 @@
-// Answers kinds 11 to 17 of the replay protocol, with rule and place, by the crate unopus 0.0.1 whose refusing returns are marked (places.patch). The
+// Answers kinds 11 to 18 of the replay protocol, with rule and place, by the crate unopus 0.0.1 whose refusing returns are marked (places.patch). The
 // build puts the folder of the marked copy for CRATE_FOLDER.
 //
 // Written here, from documents 01 and 02: the rules that the length reader can be told; the bounds outside which the crate would touch memory that is not
 // its own, or which the port adds (65,535 bytes, the lent buffer, 1 to 255 streams); soundness of a collector and the least store; the store, into which
-// the port copies the frames that the crate points at. Beside a refusal every other field is 0, and the collector, the store and the buffer are as they were.
+// the port copies the frames that the crate points at; dirty padding (kind 18), looked for behind the frames that the crate has found.
+// Beside a refusal every other field is 0, and the collector, the store and the buffer are as they were.
 #![allow(unused, non_snake_case, non_camel_case_types, static_mut_refs, dead_code)]
 
 #[path = "CRATE_FOLDER/src/externs.rs"]
@@ -173,7 +174,30 @@ unsafe fn sound(toc: u8, count: u16, framesize: u16, len: &[u16; 48]) -> bool {
     n == 0 || each == own && n as i32 * each <= 960 && len[..n].iter().all(|l| *l <= 1275)
 }
 
-unsafe fn adds(i: &mut Input, line: &mut String) -> Option<()> {
+// Whether a packet that the crate reads has a byte other than zero behind its last frame.
+unsafe fn dirty(p: &[u8]) -> bool {
+    let (mut toc, mut first, mut taken) = (0u8, 0i32, 0i32);
+    let mut frames = [std::ptr::null(); 48];
+    let mut size = [0i16; 48];
+    let n = opus_packet_parse_impl(
+        p.as_ptr(),
+        p.len() as i32,
+        0,
+        &mut toc,
+        frames.as_mut_ptr(),
+        size.as_mut_ptr(),
+        &mut first,
+        &mut taken,
+    );
+    if n < 1 {
+        return false;
+    }
+    let last = n as usize - 1;
+    let end = frames[last].offset_from(p.as_ptr()) as usize + size[last] as usize;
+    p[end..].iter().any(|b| *b != 0)
+}
+
+unsafe fn adds(i: &mut Input, line: &mut String, kinds: bool) -> Option<()> {
     let (mut toc, mut count, mut framesize) = (i.u8()?, i.u16()?, i.u16()?);
     let mut len = [0u16; 48];
     let n = i.u8()? as usize;
@@ -190,6 +214,7 @@ unsafe fn adds(i: &mut Input, line: &mut String) -> Option<()> {
     }
     store.resize(size, UNSET);
     for _ in 0..i.u8()? {
+        let strict = kinds && i.u8()? != 0;
         let p = i.bytes()?;
         let held = count as usize;
         let mut rp = collector(toc, count as i32, framesize as i32, len.map(|l| l as i16));
@@ -202,6 +227,7 @@ unsafe fn adds(i: &mut Input, line: &mut String) -> Option<()> {
                 opus_repacketizer_cat(&mut rp, p.as_ptr(), p.len() as i32)
             }
         });
+        let r = if r.0 >= 0 && strict && dirty(&p) { (-20, 0, 0) } else { r };
         put(line, r);
         if r.0 < 0 {
             continue;
@@ -267,7 +293,8 @@ unsafe fn answer(i: &mut Input, kind: u8, line: &mut String) -> Option<()> {
             let bad = over(len, &b) || !(1..=255).contains(&streams);
             in_place(line, &b, bad, |d| opus_multistream_packet_unpad(d, len, streams));
         }
-        17 => adds(i, line)?,
+        17 => adds(i, line, false)?,
+        18 => adds(i, line, true)?,
         _ => return None,
     }
     Some(())

@@ -121,11 +121,19 @@ static void collecting(void) {
     is("repacketizer.len[2]", rp.len[2], 9);
     is("repacketizer.len behind", zeros(rp.len, 3), 1);
     reports("repacketizer_cat broken", aveluafi_repacketizer_cat(&rp, packet, 3, store, sizeof store), AVELUAFI_INVALID_PACKET, 7, 2);
+    /* one frame of one byte and one padding byte, zero and not; the frames held stay 3, and 20 ms more go with them */
+    static const uint8_t dirty[] = {0x0B, 0x41, 1, 10, 7};
+    reports("repacketizer_cat_strict dirty", aveluafi_repacketizer_cat_strict(&rp, dirty, sizeof dirty, store, sizeof store), AVELUAFI_DIRTY_PADDING, 0, 0);
+    is("repacketizer_cat_strict dirty holds", rp.nb_frames, 3);
+    reports("repacketizer_cat_strict broken", aveluafi_repacketizer_cat_strict(&rp, packet, 3, store, sizeof store), AVELUAFI_INVALID_PACKET, 7, 2);
     is("repacketizer_get_nb_frames", aveluafi_repacketizer_get_nb_frames(&rp), 3);
     is("repacketizer_out", aveluafi_repacketizer_out(&rp, store, sizeof store, out, sizeof out), 26);
     is("repacketizer_out_range", aveluafi_repacketizer_out_range(&rp, store, sizeof store, 1, 2, out, sizeof out), 8);
     is("repacketizer_out_range_impl", aveluafi_repacketizer_out_range_impl(&rp, store, sizeof store, 1, 2, out, sizeof out, true, false), 9);
     is("repacketizer_out_range_impl padded", aveluafi_repacketizer_out_range_impl(&rp, store, sizeof store, 1, 2, out, 40, false, true), 40);
+    static const uint8_t clean[] = {0x0B, 0x41, 1, 10, 0};
+    reports("repacketizer_cat_strict", aveluafi_repacketizer_cat_strict(&rp, clean, sizeof clean, store, sizeof store), AVELUAFI_OK, 0, 0);
+    is("repacketizer_cat_strict holds", rp.nb_frames, 4);
     rp.nb_frames = 49;
     is("repacketizer unsound", aveluafi_repacketizer_get_nb_frames(&rp), AVELUAFI_INVALID_STATE);
 }
@@ -171,6 +179,7 @@ static void nothing(void) {
     is("NULL packet_parse", aveluafi_packet_parse(NULL, 0).number, AVELUAFI_INVALID_PACKET);
     is("NULL packet_parse_impl", aveluafi_packet_parse_impl(NULL, 0, true).number, AVELUAFI_INVALID_PACKET);
     is("NULL repacketizer_cat packet", aveluafi_repacketizer_cat(&rp, NULL, 0, store, sizeof store).number, AVELUAFI_INVALID_PACKET);
+    is("NULL repacketizer_cat_strict both", aveluafi_repacketizer_cat_strict(&rp, NULL, 0, NULL, 0).number, AVELUAFI_BAD_ARG);
     is("NULL repacketizer_cat store", aveluafi_repacketizer_cat(&rp, packet, sizeof packet, NULL, 0).number, AVELUAFI_BAD_ARG);
     is("NULL repacketizer_cat both", aveluafi_repacketizer_cat(&rp, NULL, 0, NULL, 0).number, AVELUAFI_BAD_ARG);
     is("repacketizer_cat for the outputs", aveluafi_repacketizer_cat(&rp, packet, sizeof packet, store, sizeof store).number, AVELUAFI_OK);

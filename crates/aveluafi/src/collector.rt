@@ -4,7 +4,7 @@ ghost use mathlib.Core.Path.{_≡_};
 ghost use mathlib.Core.Bool.{false};
 ghost use Rattle.opus_defines.specs.Numbers.{numberOf};
 ghost use Rattle.repacketizer.specs.Collector.{empty, nbFramesHeld};
-ghost use Rattle.repacketizer.specs.Adding.{addedReport, added};
+ghost use Rattle.repacketizer.specs.Adding.{addedReport, added, addedStrictly};
 ghost use Rattle.repacketizer_out.specs.Output.{outRange, outAll};
 use opus_defines::Report;
 use repacketizer::Head;
@@ -42,6 +42,30 @@ pub extern "C" fn aveluafi_repacketizer_cat(
     rp.nb_frames = a.count as u16;
     rp.framesize = a.framesize;
     opus_defines::verdict_report(0, a.verdict)
+}
+
+// The same, but that a packet with a padding byte other than zero is refused by -20, last of all (document 02, M-105). It hands on to the call above, so
+// that an ordinary add costs what it did.
+#[no_mangle]
+pub extern "C" fn aveluafi_repacketizer_cat_strict(
+    rp: &mut OpusRepacketizer,
+    data: &[u8],
+    store: &mut [u8],
+) -> Report
+    ensures { λ r. ⌜ (r ≡ addedReport (addedStrictly false (now (rp .entry)) (now («data» .entry)) (now (store .entry)) .answer))
+        × (now (rp .exit) ≡ addedStrictly false (now (rp .entry)) (now («data» .entry)) (now (store .entry)) .answer .rp)
+        × (now (store .exit) ≡ addedStrictly false (now (rp .entry)) (now («data» .entry)) (now (store .entry)) .store) ⌝ }
+{
+    if repacketizer::strict::has_dirt(data, false) {
+        let h = Head {
+            toc: rp.toc,
+            nb_frames: rp.nb_frames,
+            framesize: rp.framesize,
+        };
+        let e = repacketizer::strict::dirty_refusal(h, &rp.len, data, store.len());
+        return opus_defines::refusal_report(e);
+    }
+    aveluafi_repacketizer_cat(rp, data, store)
 }
 
 // The frames held.

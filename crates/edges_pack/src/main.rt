@@ -5,6 +5,7 @@ use opus_defines::Report;
 use opus_defines::Verdict;
 use repacketizer::Added;
 use repacketizer::OpusRepacketizer;
+use repacketizer::strict::opus_repacketizer_cat_strict;
 
 // The end of a case: its number and the buffer.
 fn shown(n: i32, buffer: &[u8]) {
@@ -60,6 +61,18 @@ fn collector_cases() {
     show::number(repacketizer::opus_repacketizer_get_nb_frames(rp3));
     show::text(b"\n");
     outputs(rp3, &store);
+}
+
+// Padding of zeros, and not: strict adds (document 02, M-105).
+fn strict_cases() {
+    let mut store = [0u8; 61200];
+    let rp0 = repacketizer::opus_repacketizer_init();
+    let rp1 = added(opus_repacketizer_cat_strict(rp0, b"\x03\x41\x01\xaa\x00", &mut store));
+    let rp2 = added(opus_repacketizer_cat_strict(rp1, b"\x03\x41\x01\xaa\x01", &mut store));
+    let rp3 = added(opus_repacketizer_cat_strict(rp2, b"\x07\x41\x01\xaa\x01", &mut store));
+    show::text(b"held: ");
+    show::number(repacketizer::opus_repacketizer_get_nb_frames(rp3));
+    show::text(b"\n");
 }
 
 fn outputs(rp: OpusRepacketizer, store: &[u8]) {
@@ -305,4 +318,5 @@ fn main() {
     add_place_cases();
     in_place_places();
     stream_place_cases();
+    strict_cases();
 }

@@ -52,7 +52,7 @@ unfolding packetText
 packet-most toc ns first taken small h k m f t s =
     simp length-append (omega (arith, times-most toc ns h k m, sizes-most first taken small (omega arith) t s, lines-most 0 first ns (omega arith) f))
 
-pub report-most : (n rule place : ℕ) → n < 9 → rule < 100000 → place < 100000 → length (reportLine (negsuc n) rule place) ≤ 23
+pub report-most : (n rule place : ℕ) → n < 99 → rule < 100000 → place < 100000 → length (reportLine (negsuc n) rule place) ≤ 24
 unfolding reportLine refusedLabel integer
 report-most n rule place h k m =
-    simp length-append (omega (arith, decimal-most (suc n) 0 (omega arith), digits-most rule k, digits-most place m))
+    simp length-append (omega (arith, decimal-most (suc n) 1 (omega arith), digits-most rule k, digits-most place m))

@@ -19,6 +19,8 @@ pub enum Refusal {
     Unreadable(Rule, u16),
     // A length field that is cut short, where the caller says which rule asks for it.
     CutShort(Rule),
+    // A padding byte other than zero, which a strict add does not take (document 02, M-105).
+    DirtyPadding,
 }
 
 // What a call answers to C that reads a packet: a count or the refusal's number, and with an unreadable packet the rule, 1 to 8, and the place.
@@ -61,6 +63,7 @@ pub fn shift(e: Refusal, by: usize) -> Refusal
         Refusal::InvalidState => Refusal::InvalidState,
         Refusal::Unreadable(rule, place) => rule_refusal(rule, wide(place) + by),
         Refusal::CutShort(rule) => Refusal::CutShort(rule),
+        Refusal::DirtyPadding => Refusal::DirtyPadding,
     }
 }
 
@@ -125,6 +128,11 @@ pub fn refusal_report(e: Refusal) -> Report
         Refusal::CutShort(rule) => Report {
             number: -1,
             rule: rule_number(rule),
+            place: 0,
+        },
+        Refusal::DirtyPadding => Report {
+            number: -20,
+            rule: 0,
             place: 0,
         },
     }

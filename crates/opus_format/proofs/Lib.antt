@@ -9,3 +9,4 @@ pub mod Broken
 pub mod Sound
 pub mod Facts
 pub mod Lengths
+pub mod Dirt

@@ -144,7 +144,7 @@ said-few (toc ∷ s) = go (code toc) s
     go (suc (suc (suc c))) s = counted s
 
 -- whatever the lengths held
-stays-lengths : (h : Head) (l m p : List ℕ) → staysOut (collectorOf h l) p ≡ staysOut (collectorOf h m) p
+pub stays-lengths : (h : Head) (l m p : List ℕ) → staysOut (collectorOf h l) p ≡ staysOut (collectorOf h m) p
 unfolding staysOut
 stays-lengths h l m [] = refl
 stays-lengths h l m (toc ∷ s) = refl

@@ -1,5 +1,5 @@
 -- Collectors by computation: what a reset makes, which states are sound, and what an add asks before it reads, with the numbers that the calls return
--- (document 01, 'Return numbers'; document 02, M-100).
+-- (document 01, 'Return numbers'; document 02, M-100 and M-105).
 -- Assumes nothing.
 use Prim.Native.Nat.{ℕ, _-_}
 use mathlib.Core.Path.{_≡_, refl}
@@ -13,8 +13,9 @@ use Rattle.opus_defines.specs.declared.Report.{Report}
 use Rattle.opus_toc.specs.Toc.{duration, samples}
 use Rattle.opus_toc.specs.Answers.{nbFrames}
 use Rattle.opus_format.specs.Reading.{read}
+use Rattle.opus_format.specs.Dirt.{dirtyPacket}
 use Rattle.repacketizer.specs.Collector.{empty, sound, nbFramesHeld}
-use Rattle.repacketizer.specs.Adding.{staysOut, added, addedReport}
+use Rattle.repacketizer.specs.Adding.{staysOut, added, addedStrictly, addedReport}
 use Rattle.repacketizer.specs.declared.OpusRepacketizer.{OpusRepacketizer}
 
 abbrev collector : ℕ → ℕ → ℕ → List ℕ → OpusRepacketizer
@@ -65,3 +66,26 @@ pub empty-asks-nothing :
     ≡ breaks 5 1 ∷ breaks 5 1 ∷ breaks 6 2 ∷ plain (pos 0) ∷ []
 unfolding added staysOut sound samples duration nbFrames read ruleRefusal
 empty-asks-nothing = refl
+
+-- ---- strict adds (document 02, M-105)
+abbrev strictReports : OpusRepacketizer → List (List ℕ) → List Report
+strictReports rp ps = map (λ (p : List ℕ). addedReport (addedStrictly false rp p (replicate 61200 0) .answer)) ps
+
+-- To an empty collector: one padding byte, zero and not; padding that does not fit; two unequal frames and a dirty byte; a chain of 255 and 0, 254 padding
+-- bytes of which the last is 1; the same with zeros; padding lengths alone are not looked at: 1 is no dirt; dirt in a frame is none.
+pub strict-from-empty :
+    strictReports empty
+    ((0x03 ∷ 0x41 ∷ 0x01 ∷ 0xaa ∷ 0x00 ∷ []) ∷ (0x03 ∷ 0x41 ∷ 0x01 ∷ 0xaa ∷ 0x01 ∷ []) ∷ (0x03 ∷ 0x41 ∷ 0x02 ∷ 0xaa ∷ [])
+    ∷ (0x03 ∷ 0xc2 ∷ 0x01 ∷ 0x01 ∷ 0xaa ∷ 0xbb ∷ 0x07 ∷ []) ∷ (0x03 ∷ 0x41 ∷ 255 ∷ 0 ∷ 0xaa ∷ (replicate 253 0 ++ (1 ∷ [])))
+    ∷ (0x03 ∷ 0x41 ∷ 255 ∷ 0 ∷ 0xaa ∷ replicate 254 0) ∷ (0x03 ∷ 0x41 ∷ 0x00 ∷ 0xaa ∷ []) ∷ (0x00 ∷ 0xaa ∷ []) ∷ [])
+    ≡ plain (pos 0) ∷ plain (negsuc 19) ∷ breaks 6 2 ∷ plain (negsuc 19) ∷ plain (negsuc 19) ∷ plain (pos 0) ∷ plain (pos 0) ∷ plain (pos 0) ∷ []
+unfolding addedStrictly dirtyPacket staysOut sound samples duration nbFrames read ruleRefusal
+strict-from-empty = refl
+
+-- 00 AA is held: a packet with other upper six bits, or over 120 ms with the one held, is refused as by an ordinary add, dirty or not
+pub strict-asks-last :
+    strictReports (collector 0x00 1 80 (1 ∷ []))
+    ((0x07 ∷ 0x41 ∷ 0x01 ∷ 0xaa ∷ 0x01 ∷ []) ∷ (0x03 ∷ 0x4c ∷ 0x01 ∷ 0x01 ∷ []) ∷ (0x03 ∷ 0x41 ∷ 0x01 ∷ 0xaa ∷ 0x01 ∷ []) ∷ [])
+    ≡ plain (negsuc 3) ∷ plain (negsuc 3) ∷ plain (negsuc 19) ∷ []
+unfolding addedStrictly dirtyPacket staysOut sound samples duration nbFrames read ruleRefusal
+strict-asks-last = refl

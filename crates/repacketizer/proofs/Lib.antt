@@ -6,8 +6,10 @@ pub mod Checks
 pub mod Parsed
 pub mod Adds
 pub mod Kept
+pub mod StrictAdds
 pub mod Steps
 pub mod Runs
 pub mod Naming
 pub mod Promises
+pub mod StrictPromises
 pub mod Examples

@@ -4,7 +4,7 @@
 --     add-bytes     the store stays bytes
 --     add-six       the upper six TOC bits of what is accepted are those of what is held
 -- Assumes nothing.
-use mathlib.Core.Path.{_≡_, sym, _∙_, refl}
+use mathlib.Core.Path.{_≡_, sym, _∙_, refl, subst}
 use mathlib.Core.List.{List, _++_, append-nil}
 use mathlib.Core.Bool.{Bool, true}
 use Prim.Native.Nat.{ℕ, _+_, _*_, _≤_, _<_}
@@ -26,14 +26,15 @@ use Rattle.opus_format.proofs.Sound.{read-spelled}
 use Rattle.opus_format.proofs.Facts.{Facts, facts}
 use Rattle.blocks.specs.Blocks.{part}
 use Rattle.repacketizer.specs.Collector.{held, heldLengths}
-use Rattle.repacketizer.specs.Adding.{Adding, goesWith, withFrames, Addition, refusal, takes, leavesAdd, adds, added}
+use Rattle.repacketizer.specs.Adding.{Adding, goesWith, withFrames, Addition, refusal, takes, leavesAdd, addsBy}
 use Rattle.repacketizer.specs.declared.OpusRepacketizer.{OpusRepacketizer}
 use Rattle.repacketizer.specs.Runs.{State, Ready, Arrival, adding, afterAdd, framesIf, framesAdded}
 use Rattle.opus_format.proofs.Lengths.{longest-append}
 use Rattle.repacketizer.proofs.Lengths.{take-sets-at, cut-copied}
 use Rattle.repacketizer.proofs.Sound.{full-sound}
 use Rattle.repacketizer.proofs.Held.{Holding, holding}
-use Rattle.repacketizer.proofs.Adds.{with-few, with-timed, with-room, taken, took, took-goes}
+use Rattle.repacketizer.proofs.Adds.{with-few, with-timed, with-room, taken, took-goes}
+use Rattle.repacketizer.proofs.StrictAdds.{by-adds, took-by}
 
 -- the collector and the store that an add leaves
 abbrev stateOf : Adding → State
@@ -76,35 +77,40 @@ module _ (sd : Bool) (s : State) (p : List ℕ) (r : Ready s) (b : Bytes p) (toc
   unfolding framesOf
   taken-held = rw (grown, q) (cut-copied (heldLengths (s .rp)) ns (s .store) p first room (omega (arith, read-facts .block, read-facts .within)))
 
--- ---- any packet
+-- ---- any packet, added strictly or not
+abbrev additionOf : State → Arrival → Addition
+additionOf s a = addsBy (a .strict) (a .sd) (s .rp) (a .packet) (length (s .store))
+
+adding-is : (s : State) (a : Arrival) → adding s a ≡ leavesAdd (s .rp) (a .packet) (s .store) (additionOf s a)
+adding-is s a = by-adds (a .strict) (a .sd) (s .rp) (a .packet) (s .store)
+
+-- what is held behind an add is what was held, and the frames of an accepted packet
+abbrev Grown : State → Arrival → Adding → Type 0
+Grown s a y =
+    held (y .answer .rp) (y .store) ≡ held (s .rp) (s .store) ++ framesIf (y .answer .verdict) (framesOf (a .packet) (read (a .sd) (a .packet)))
+
 pub add-ready : (s : State) (a : Arrival) → Ready s → Bytes (a .packet) → Ready (afterAdd s a)
-unfolding added
-add-ready s a r b = go (adds (a .sd) (s .rp) (a .packet) (length (s .store))) refl
+add-ready s a r b = subst (λ y. Ready (stateOf y)) (sym (adding-is s a)) (go (additionOf s a) refl)
   where
-    go : (x : Addition) → adds (a .sd) (s .rp) (a .packet) (length (s .store)) ≡ x → Ready (stateOf (leavesAdd (s .rp) (a .packet) (s .store) x))
+    go : (x : Addition) → additionOf s a ≡ x → Ready (stateOf (leavesAdd (s .rp) (a .packet) (s .store) x))
     go (refusal e) h = r
     go (takes toc ns first) h =
-        let t = took (a .sd) (s .rp) (a .packet) (length (s .store)) toc ns first h in
+        let t = took-by (a .strict) (a .sd) (s .rp) (a .packet) (length (s .store)) toc ns first h in
         taken-ready (a .sd) s (a .packet) r b toc ns first (t .end) (t .reads) (took-goes b t)
 
 pub add-held : (s : State) (a : Arrival) → Ready s → Bytes (a .packet)
     → held (afterAdd s a .rp) (afterAdd s a .store) ≡ held (s .rp) (s .store) ++ framesAdded s a
-unfolding added
-add-held s a r b = go (adds (a .sd) (s .rp) (a .packet) (length (s .store))) refl
+add-held s a r b = subst (Grown s a) (sym (adding-is s a)) (go (additionOf s a) refl)
   where
-    go : (x : Addition) → adds (a .sd) (s .rp) (a .packet) (length (s .store)) ≡ x
-        → let left = leavesAdd (s .rp) (a .packet) (s .store) x in
-        held (left .answer .rp) (left .store)
-        ≡ held (s .rp) (s .store) ++ framesIf (left .answer .verdict) (framesOf (a .packet) (read (a .sd) (a .packet)))
+    go : (x : Addition) → additionOf s a ≡ x → Grown s a (leavesAdd (s .rp) (a .packet) (s .store) x)
     go (refusal e) h = sym (append-nil (held (s .rp) (s .store)))
     go (takes toc ns first) h =
-        let t = took (a .sd) (s .rp) (a .packet) (length (s .store)) toc ns first h in
+        let t = took-by (a .strict) (a .sd) (s .rp) (a .packet) (length (s .store)) toc ns first h in
         taken-held (a .sd) s (a .packet) r b toc ns first (t .end) (t .reads) (took-goes b t)
 
 -- the store stays bytes
 pub add-bytes : (s : State) (a : Arrival) → Bytes (s .store) → Bytes (a .packet) → Bytes (afterAdd s a .store)
-unfolding added
-add-bytes s a k b = go (adds (a .sd) (s .rp) (a .packet) (length (s .store)))
+add-bytes s a k b = subst (λ y. Bytes (y .store)) (sym (adding-is s a)) (go (additionOf s a))
   where
     go : (x : Addition) → Bytes (leavesAdd (s .rp) (a .packet) (s .store) x .store)
     go (refusal e) = k
@@ -123,13 +129,12 @@ same-six rp toc n z g =
     eqb-true (upperSix toc) (upperSix (rp .toc)) (both-left (eqb (upperSix toc) (upperSix (rp .toc))) (leb ((rp .«nb_frames» + n) * rp .framesize .0) 960) t)
 
 pub add-six : (s : State) (a : Arrival) → Bytes (a .packet) → Six s a (adding s a)
-unfolding added
-add-six s a b = go (adds (a .sd) (s .rp) (a .packet) (length (s .store))) refl
+add-six s a b = subst (Six s a) (sym (adding-is s a)) (go (additionOf s a) refl)
   where
-    go : (x : Addition) → adds (a .sd) (s .rp) (a .packet) (length (s .store)) ≡ x → Six s a (leavesAdd (s .rp) (a .packet) (s .store) x)
+    go : (x : Addition) → additionOf s a ≡ x → Six s a (leavesAdd (s .rp) (a .packet) (s .store) x)
     go (refusal e) h = record { is = λ v. never (cc); stays = λ z. (refl, z) }
     go (takes toc ns first) h =
-        let t = took (a .sd) (s .rp) (a .packet) (length (s .store)) toc ns first h in
+        let t = took-by (a .strict) (a .sd) (s .rp) (a .packet) (length (s .store)) toc ns first h in
         let first-is = read-spelled (a .sd) (a .packet) toc ns first (t .end) b (t .reads) .toc-is in
         let some = facts (a .sd) (a .packet) toc ns first (t .end) b (t .reads) .some in
         record {

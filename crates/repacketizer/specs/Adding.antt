@@ -11,7 +11,7 @@ use Rattle.opus_defines.specs.Numbers.{verdictReport}
 use Rattle.opus_defines.specs.declared.Report.{Report}
 use Rattle.opus_defines.specs.Rules.{ruleRefusal}
 use Rattle.opus_defines.specs.declared.Refusal.{Refusal}
-use Rattle.opus_defines.specs.declared.Refusal.the-variants.{BadArg, InvalidPacket, InvalidState}
+use Rattle.opus_defines.specs.declared.Refusal.the-variants.{BadArg, InvalidPacket, InvalidState, DirtyPadding}
 use Rattle.opus_defines.specs.declared.Verdict.the-variants.{Accepted, Refused}
 use Rattle.opus_defines.specs.declared.Answer.{Answer}
 use Rattle.opus_defines.specs.declared.Answer.the-variants.{Number, Refused as Said}
@@ -19,6 +19,7 @@ use Rattle.opus_toc.specs.Toc.{upperSix, configuration, samples}
 use Rattle.opus_toc.specs.Answers.{nbFrames}
 use Rattle.opus_format.specs.Frames.{total}
 use Rattle.opus_format.specs.Reading.{lasts, Reading, refused, accepted, read}
+use Rattle.opus_format.specs.Dirt.{dirtyPacket}
 use Rattle.blocks.specs.Blocks.{copied}
 use Rattle.repacketizer.specs.declared.OpusRepacketizer.{OpusRepacketizer}
 use Rattle.repacketizer.specs.declared.Added.{Added}
@@ -108,3 +109,17 @@ addPacket sd rp p store = leavesAdd rp p store (packetAdds sd rp p)
 -- `opus_repacketizer_cat_impl`; `opus_repacketizer_cat` is its ordinary form
 unfoldable pub added : Bool → OpusRepacketizer → List ℕ → List ℕ → Adding
 added sd rp p store = leavesAdd rp p store (adds sd rp p (length store))
+
+-- ---- a strict add (document 02, M-105): the ordinary one, but that it refuses last of all a packet with dirty padding
+abbrev pub unlessDirty : Bool → Addition → Addition
+unlessDirty dirt (refusal e) = refusal e
+unlessDirty dirt (takes toc ns first) = cond dirt (refusal DirtyPadding) (takes toc ns first)
+
+-- an add of either kind
+abbrev pub addsBy : Bool → Bool → OpusRepacketizer → List ℕ → ℕ → Addition
+addsBy false sd rp p bytes = adds sd rp p bytes
+addsBy true sd rp p bytes = unlessDirty (dirtyPacket sd p) (adds sd rp p bytes)
+
+-- `opus_repacketizer_cat_strict_impl`; `opus_repacketizer_cat_strict` is its ordinary form
+unfoldable pub addedStrictly : Bool → OpusRepacketizer → List ℕ → List ℕ → Adding
+addedStrictly sd rp p store = leavesAdd rp p store (addsBy true sd rp p (length store))

@@ -1,21 +1,23 @@
 -- What the inner functions answer, where a collector's lengths are lent beside the rest of it.
 use Prim.Native.Nat.{ℕ, _+_, _%_}
 use mathlib.Core.List.{List}
-use mathlib.Core.Bool.{cond}
-use lib.Dec.{eqb}
+use mathlib.Core.Bool.{Bool, cond, _&&_}
+use lib.Dec.{ltb, leb, eqb}
 use lib.ListN.{length}
+use Rattle.opus_defines.specs.Bounds.{mostPacket}
 use Rattle.opus_defines.specs.declared.Refusal.{Refusal}
-use Rattle.opus_defines.specs.declared.Refusal.the-variants.{InvalidPacket}
+use Rattle.opus_defines.specs.declared.Refusal.the-variants.{BadArg, InvalidPacket, InvalidState, DirtyPadding}
 use Rattle.opus_defines.specs.declared.Verdict.the-variants.{Accepted, Refused}
 use Rattle.opus_toc.specs.Toc.{configuration, samples}
 use Rattle.opus_format.specs.Frames.{total, longest}
+use Rattle.opus_format.specs.Dirt.{dirtyPacket}
 use Rattle.repacketizer.specs.declared.OpusRepacketizer.{OpusRepacketizer}
 use Rattle.repacketizer.specs.declared.Added.{Added}
 use Rattle.repacketizer.specs.declared.Measured.{Measured}
 use Rattle.repacketizer.specs.declared.Head.{Head}
 use Rattle.repacketizer.specs.declared.Checked.{Checked}
 use Rattle.repacketizer.specs.declared.AddedHead.{AddedHead}
-use Rattle.repacketizer.specs.Collector.{heldLengths, sound}
+use Rattle.repacketizer.specs.Collector.{heldLengths, leastStore, sound}
 use Rattle.repacketizer.specs.Adding.{Adding, goesWith, staysOut, refusal, takes, leavesAdd}
 
 -- one pass over lengths
@@ -49,6 +51,14 @@ moreFrames h toc n =
 -- frames of a packet that was read: they go with those held, or are refused
 unfoldable pub addBlock : OpusRepacketizer → ℕ → List ℕ → List ℕ → ℕ → List ℕ → Adding
 addBlock rp toc ns p first store = leavesAdd rp p store (cond (goesWith rp toc (length ns)) (takes toc ns first) (refusal InvalidPacket))
+
+-- a packet of at most 65,535 bytes has dirty padding; a longer one no add looks at
+abbrev pub hasDirt : Bool → List ℕ → Bool
+hasDirt sd p = leb (length p) mostPacket && dirtyPacket sd p
+
+-- why a strict add refuses such a packet, with a store of so many bytes: all that an ordinary add asks comes first
+abbrev pub whyDirty : OpusRepacketizer → List ℕ → ℕ → Refusal
+whyDirty rp p bytes = cond (sound rp) (cond (ltb bytes leastStore) BadArg (cond (staysOut rp p) InvalidPacket DirtyPadding)) InvalidState
 
 -- why a packet that cannot be read is refused
 abbrev pub whyNot : OpusRepacketizer → List ℕ → Refusal → Refusal

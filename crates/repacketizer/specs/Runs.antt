@@ -2,7 +2,7 @@
 use Prim.Native.Nat.{ℕ, _≤_, _<_}
 use mathlib.Core.Path.{_≡_}
 use mathlib.Core.List.{List, [], _∷_, _++_}
-use mathlib.Core.Bool.{Bool, true}
+use mathlib.Core.Bool.{Bool, true, false}
 use lib.ListN.{length, getD}
 use Rattle.laws.specs.Bytes.{Bytes}
 use Rattle.opus_defines.specs.declared.Verdict.{Verdict}
@@ -11,7 +11,7 @@ use Rattle.opus_toc.specs.Toc.{upperSix}
 use Rattle.opus_format.specs.Reading.{read, framesOf}
 use Rattle.repacketizer.specs.declared.OpusRepacketizer.{OpusRepacketizer}
 use Rattle.repacketizer.specs.Collector.{held, leastStore, sound}
-use Rattle.repacketizer.specs.Adding.{Adding, added}
+use Rattle.repacketizer.specs.Adding.{Adding, added, addedStrictly}
 
 -- a collector with its store
 pub record State : Type 0 where
@@ -38,8 +38,9 @@ pub record Holds (six : ℕ) (s : State) (all : List (List ℕ)) : Type 0 where
   pub frames : held (s .rp) (s .store) ≡ all
   pub same : 1 ≤ length all → upperSix (s .rp .toc) ≡ six
 
--- one add of a sequence: the packet, and whether it is added in the self-delimited form
+-- one add of a sequence: the packet, whether it is added strictly, and whether in the self-delimited form
 pub record Arrival : Type 0 where
+  pub strict : Bool
   pub sd : Bool
   pub packet : List ℕ
 
@@ -48,9 +49,14 @@ abbrev pub AllBytes : List Arrival → Type 0
 AllBytes [] = Unit {0}
 AllBytes (a ∷ more) = Bytes (a .packet) × AllBytes more
 
+-- the two calls that add, by their kind
+abbrev pub addedBy : Bool → Bool → OpusRepacketizer → List ℕ → List ℕ → Adding
+addedBy false sd rp p store = added sd rp p store
+addedBy true sd rp p store = addedStrictly sd rp p store
+
 -- one add to a collector with its store: what it answers, and what it leaves
 abbrev pub adding : State → Arrival → Adding
-adding s a = added (a .sd) (s .rp) (a .packet) (s .store)
+adding s a = addedBy (a .strict) (a .sd) (s .rp) (a .packet) (s .store)
 
 abbrev pub afterAdd : State → Arrival → State
 afterAdd s a = record { rp = adding s a .answer .rp; store = adding s a .store }

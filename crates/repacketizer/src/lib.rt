@@ -1,4 +1,6 @@
 // The collector, and adding packets to it (repacketizer.rs): by value, and as a head with its lengths lent.
+pub mod strict;
+
 ghost use mathlib.Core.Path.{_≡_};
 ghost use mathlib.Core.List.{[], _∷_};
 ghost use mathlib.Core.Bool.{true, false};

@@ -29,18 +29,21 @@ use Rattle.opus_format.proofs.Counts.{lasts-few}
 use Rattle.opus_format.proofs.Complete.{spelled-read}
 use Rattle.blocks.proofs.Sets.{take-sets}
 use Rattle.opus_header.specs.Compact.{compact}
+use Rattle.opus_format.specs.Dirt.{dirtyPacket}
+use Rattle.opus_format.proofs.Dirt.{spelled-dirt}
 use Rattle.opus_header.proofs.Spelled.{compact-spelled, compact-unpadded}
 use Rattle.repacketizer.specs.Collector.{held, heldLengths}
-use Rattle.repacketizer.specs.Adding.{Adding, goesWith, withFrames, added}
-use Rattle.repacketizer.specs.Runs.{State, Ready, Empty, Holds, AllAccepted, adding, afterAdd, afterAdds}
+use Rattle.repacketizer.specs.Adding.{Adding, goesWith, withFrames}
+use Rattle.repacketizer.specs.Runs.{State, Ready, Empty, Holds, Arrival, AllAccepted, adding, afterAdd, afterAdds}
 use Rattle.opus_format.proofs.Lengths.{longest-append}
 use Rattle.repacketizer.proofs.Sound.{lasts-timed, sound-full}
 use Rattle.repacketizer.proofs.Held.{Holding}
 use Rattle.repacketizer.proofs.Adds.{goes-none, goes-time, taken, add-sound, add-read, block-added}
+use Rattle.repacketizer.proofs.StrictAdds.{by-clean}
 use Rattle.repacketizer.proofs.Steps.{add-ready, add-held}
 use Rattle.repacketizer.proofs.Runs.{empty-ready, empty-held}
 use Rattle.repacketizer_out.specs.Output.{range}
-use Rattle.repacketizer_out.specs.Pieces.{Nonempty, together, packed, Cut, Cuts, Room, outputsAdded}
+use Rattle.repacketizer_out.specs.Pieces.{Piece, Nonempty, together, packed, Cut, Cuts, Room, outputsAdded}
 use Rattle.repacketizer_out.proofs.Ranges.{length-range, lasts-fewer, length-held, ready-holding}
 use Rattle.repacketizer_out.proofs.Outputs.{range-output, output-written}
 use Rattle.repacketizer_out.proofs.Packets.{nothing-behind, spelled-back, spelled-bytes, compact-short}
@@ -67,7 +70,7 @@ fine-append a b f =
     )
 
 -- ---- one piece more
-module _ (sd : Bool) (six : ℕ) (k : six < 64) {s : State} {done : List (List ℕ)} (h : Holds six s done) (piece : List (List ℕ))
+module _ (sd : Bool) (six : ℕ) (k : six < 64) {s : State} {done : List (List ℕ)} (h : Holds six s done) (strict : Bool) (piece : List (List ℕ))
     (some : 1 ≤ length piece) (l : Lasts six (length done + length piece)) (f : Fine piece) where
   abbrev p : List ℕ
   p = compact sd six piece
@@ -105,13 +108,22 @@ module _ (sd : Bool) (six : ℕ) (k : six < 64) {s : State} {done : List (List �
       sym (goes-time (s .rp) toc (length ns) z (spelled-back spells .1 ∙ sym six-is))
       ∙ lasts-timed (r .byte) (sound-full (s .rp) z (r .soundly) .timed .size) all .time)
 
-  accepted-is : added sd (s .rp) p (s .store) ≡ taken (s .rp) toc ns p (length (spells .head)) (s .store)
+  abbrev one : Arrival
+  one = packed sd six (record { strict = strict; frames = piece })
+
+  -- there is no padding, so a strict add is the ordinary one
+  clean : dirtyPacket sd p ≡ false
+  unfolding spells
+  clean = rw (append-nil p, compact-unpadded sd six piece brief (f .small)) at (spelled-dirt spells [] (nothing-behind sd))
+
+  accepted-is : adding s one ≡ taken (s .rp) toc ns p (length (spells .head)) (s .store)
   accepted-is =
       let r = h .ready in
       let first = length (spells .head) in
-      add-sound sd (s .rp) p (s .store) (r .soundly) (r .roomy)
+      by-clean sd (s .rp) p (s .store) strict clean
+      ∙ (add-sound sd (s .rp) p (s .store) (r .soundly) (r .roomy)
       ∙ (add-read sd (s .rp) p (s .store) toc ns first (length p) bytes (compact-short sd six piece (lasts-few brief) (f .small)) reads
-      ∙ block-added (s .rp) toc ns p first (s .store) goes)
+      ∙ block-added (s .rp) toc ns p first (s .store) goes))
 
   -- the first packet sets the TOC byte, a later one has the same six bits
   kept : upperSix (withFrames (s .rp) toc ns .toc) ≡ six
@@ -119,40 +131,41 @@ module _ (sd : Bool) (six : ℕ) (k : six < 64) {s : State} {done : List (List �
       cond-elim (λ (n : ℕ). upperSix n ≡ six) (eqb (s .rp .«nb_frames») 0) toc (s .rp .toc) (λ e. spelled-back spells .1)
       (λ e. h .same (omega (arith, count, eqb-false (s .rp .«nb_frames») 0 e)))
 
-  pub piece-accepted : adding s (packed sd six piece) .answer .verdict ≡ Accepted
+  pub piece-accepted : adding s one .answer .verdict ≡ Accepted
   piece-accepted = rw accepted-is
 
-  pub piece-held : Holds six (afterAdd s (packed sd six piece)) (done ++ piece)
+  pub piece-held : Holds six (afterAdd s one) (done ++ piece)
   piece-held =
       record {
-        ready = add-ready s (packed sd six piece) (h .ready) bytes;
-        frames = add-held s (packed sd six piece) (h .ready) bytes ∙ rw (accepted-is, h .frames, spelled-back spells .0);
+        ready = add-ready s one (h .ready) bytes;
+        frames = add-held s one (h .ready) bytes ∙ rw (accepted-is, h .frames, spelled-back spells .0);
         same = λ m. ap (λ (a : Adding). upperSix (a .answer .rp .toc)) accepted-is ∙ kept;
       }
 
 -- all pieces
-pub pieces-held : (sd : Bool) (six : ℕ) → six < 64 → {s : State} {done : List (List ℕ)} → Holds six s done → (pieces : List (List (List ℕ)))
+pub pieces-held : (sd : Bool) (six : ℕ) → six < 64 → {s : State} {done : List (List ℕ)} → Holds six s done → (pieces : List Piece)
     → Nonempty pieces → Lasts six (length done + length (together pieces)) → Fine (together pieces)
     → let l = map (packed sd six) pieces in AllAccepted s l × Holds six (afterAdds s l) (done ++ together pieces)
 pieces-held sd six k {done = done} h [] n l f = (tt, rw (append-nil done) h)
 pieces-held sd six k {done = done} h (piece ∷ pieces) n l f =
     let rest = together pieces in
-    let parts = fine-append piece rest f in
-    let size = length-append piece rest in
-    let more : length (done ++ piece) + length rest ≡ length done + length (piece ++ rest) = omega (arith, length-append done piece) in
-    let brief = lasts-fewer (length done + length piece) l (omega (arith, n .0)) (omega arith) in
-    let now = piece-held sd six k h piece (n .0) brief (parts .0) in
+    let frames = piece .frames in
+    let parts = fine-append frames rest f in
+    let size = length-append frames rest in
+    let more : length (done ++ frames) + length rest ≡ length done + length (frames ++ rest) = omega (arith, length-append done frames) in
+    let brief = lasts-fewer (length done + length frames) l (omega (arith, n .0)) (omega arith) in
+    let now = piece-held sd six k h (piece .strict) frames (n .0) brief (parts .0) in
     let all = pieces-held sd six k now pieces (n .1) (rw more l) (parts .1) in
-    ((piece-accepted sd six k h piece (n .0) brief (parts .0), all .0), rw (← append-assoc done piece rest) (all .1))
+    ((piece-accepted sd six k h (piece .strict) frames (n .0) brief (parts .0), all .0), rw (← append-assoc done frames rest) (all .1))
 
 -- ---- pieces of what a collector holds
 none-held : (six : ℕ) (e : State) → Empty e → Holds six e []
 none-held six e z = record { ready = empty-ready e z; frames = empty-held e z; same = λ m. absurd (omega arith) }
 
 -- the ranges between cut points
-abbrev pub ranges : ℕ → List Cut → List (List ℕ) → List (List (List ℕ))
+abbrev pub ranges : ℕ → List Cut → List (List ℕ) → List Piece
 ranges begin [] frames = []
-ranges begin (c ∷ more) frames = range begin (c .end) frames ∷ ranges (c .end) more frames
+ranges begin (c ∷ more) frames = record { strict = c .strict; frames = range begin (c .end) frames } ∷ ranges (c .end) more frames
 
 cuts-within : (begin n : ℕ) (cuts : List Cut) → Cuts begin n cuts → begin ≤ n
 cuts-within begin n [] k = omega (arith, k)
@@ -189,13 +202,13 @@ module _ (s : State) (r : Ready s) where
   held-lasts h = rw (length-held (s .rp) (s .store) holds) (holds .lasts (omega (arith, length-held (s .rp) (s .store) holds)))
 
   -- added to a collector that holds nothing
-  pub cuts-held : (sd : Bool) → Bytes (s .store) → (pieces : List (List (List ℕ))) → Nonempty pieces → together pieces ≡ held (s .rp) (s .store)
+  pub cuts-held : (sd : Bool) → Bytes (s .store) → (pieces : List Piece) → Nonempty pieces → together pieces ≡ held (s .rp) (s .store)
       → (e : State) → Empty e
       → let l = map (packed sd (upperSix (s .rp .toc))) pieces in
       AllAccepted e l × Holds (upperSix (s .rp .toc)) (afterAdds e l) (held (s .rp) (s .store))
   cuts-held sd b [] n same e z = (tt, rw (← same) (none-held (upperSix (s .rp .toc)) e z))
   cuts-held sd b (piece ∷ pieces) n same e z =
-      let all : 1 ≤ length (held (s .rp) (s .store)) = omega (arith, n .0, length-append piece (together pieces), ap length same) in
+      let all : 1 ≤ length (held (s .rp) (s .store)) = omega (arith, n .0, length-append (piece .frames) (together pieces), ap length same) in
       let six = upperSix (s .rp .toc) in
       rw same at
       (pieces-held sd six (omega (arith, r .byte)) (none-held six e z) (piece ∷ pieces) n (rw (same, zero-add) (held-lasts all)) (rw same (held-fine b)))

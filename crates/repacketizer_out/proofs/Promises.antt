@@ -3,7 +3,7 @@
 use Prim.Native.Nat.{ℕ, _≤_, _<_}
 use native.Mathlib.Omega.{arith}
 use mathlib.Core.Path.{_≡_, ap, _∙_}
-use mathlib.Core.List.{List, map}
+use mathlib.Core.List.{List, [], map, append-nil}
 use mathlib.Core.Bool.{Bool, true, false}
 use mathlib.Core.Logic.{_⊎_}
 use lib.IntN.{ℤ, pos, negsuc}
@@ -15,7 +15,9 @@ use Rattle.opus_format.specs.Format.{Spells}
 use Rattle.opus_format.specs.Reading.{read, framesOf}
 use Rattle.opus_header.specs.Compact.{compact, filling}
 use Rattle.opus_header.proofs.Shortest.{shortest}
-use Rattle.opus_header.proofs.Spelled.{compact-spelled}
+use Rattle.opus_format.specs.Dirt.{dirtyPacket}
+use Rattle.opus_format.proofs.Dirt.{spelled-dirt, dirty-zeros}
+use Rattle.opus_header.proofs.Spelled.{compact-spelled, compact-unpadded}
 use Rattle.opus_header.proofs.Filling.{filling-spelled, filling-zeros}
 use Rattle.repacketizer.specs.declared.OpusRepacketizer.{OpusRepacketizer}
 use Rattle.repacketizer.specs.Collector.{held, sound}
@@ -24,11 +26,11 @@ use Rattle.repacketizer.proofs.Runs.{runs-bytes}
 use Rattle.repacketizer.proofs.Promises.{frames-are-kept, collector-stays-sound}
 use Rattle.opus_defines.proofs.Outcomes.{refusal-keeps}
 use Rattle.repacketizer_out.specs.Output.{outputs, range, outRange, outAll}
-use Rattle.repacketizer_out.specs.Pieces.{Nonempty, together, packed, Cut, Cuts, Room, outputsAdded}
+use Rattle.repacketizer_out.specs.Pieces.{Piece, Nonempty, together, packed, Cut, Cuts, Room, outputsAdded}
 use Rattle.repacketizer_out.proofs.Ranges.{length-held, ready-holding, range-lasts, range-small}
 use Rattle.repacketizer_out.proofs.Outputs.{out-unsound, out-tight, out-long, out-sound, frames-none, frames-out}
 use Rattle.repacketizer_out.proofs.Outputs.{range-output, output-written, output-exactly, output-fills}
-use Rattle.repacketizer_out.proofs.Packets.{spelled-back}
+use Rattle.repacketizer_out.proofs.Packets.{nothing-behind, spelled-back}
 use Rattle.repacketizer_out.proofs.Again.{cuts-held, outputs-held}
 
 -- 3. Shortest: whatever RFC packet has these frames and these upper six TOC bits is the compact packet, or is longer than it.
@@ -81,6 +83,19 @@ module _ (s : State) (r : Ready s) (begin end : ℕ) (some : begin < end) (withi
   unfolding filling-is-a-packet
   padding-is-zeros sd m = filling-zeros sd six frames m (range-lasts s r begin end some within) (range-small s r begin end some within)
 
+  -- Outputs are clean, unpadded and padded: a strict add refuses none of them for its padding (document 02, M-105).
+  pub unpadded-output-is-clean : (sd : Bool) → dirtyPacket sd (compact sd six frames) ≡ false
+  unpadded-output-is-clean sd =
+      let lasting = range-lasts s r begin end some within in
+      let small = range-small s r begin end some within in
+      rw (append-nil (compact sd six frames), compact-unpadded sd six frames lasting small) at
+      (spelled-dirt (compact-spelled sd six frames lasting small) [] (nothing-behind sd))
+
+  pub padded-output-is-clean : (sd : Bool) (m : ℕ) → dirtyPacket sd (filling sd six frames m) ≡ false
+  padded-output-is-clean sd m =
+      let dirt = rw (append-nil (filling sd six frames m), padding-is-zeros sd m) at (spelled-dirt (filling-is-a-packet sd m) [] (nothing-behind sd)) in
+      dirt ∙ dirty-zeros (length (filling-is-a-packet sd m .padding))
+
 -- Output of all is output of the range of all frames held; where none is held, it is refused by -1.
 module _ (s : State) (r : Ready s) (dst : List ℕ) (most : length dst ≤ 65535) where
   pub all-is-the-range : outAll (s .rp) (s .store) dst ≡ outRange false false (s .rp) (s .store) (pos 0) (pos (length (held (s .rp) (s .store)))) dst
@@ -92,15 +107,15 @@ module _ (s : State) (r : Ready s) (dst : List ℕ) (most : length dst ≤ 65535
       (out-sound false false (s .rp) (s .store) (pos 0) (pos (s .rp .«nb_frames»)) dst (r .soundly) (r .roomy) most
       ∙ frames-none false false (upperSix (s .rp .toc)) (held (s .rp) (s .store)) dst 0 (s .rp .«nb_frames») (omega (arith, e)))
 
--- 6. The frames held, cut into consecutive pieces that are not empty, each as its compact packet and added in order to a collector that holds
--- nothing, are held again, with the same upper six TOC bits; every add is accepted.
-pub cuts-give-the-frames-again : (s : State) → Ready s → Bytes (s .store) → (sd : Bool) (pieces : List (List (List ℕ))) → Nonempty pieces
+-- 6. The frames held, cut into consecutive pieces that are not empty, each as its compact packet and added in order, strictly or not, to a collector
+-- that holds nothing, are held again, with the same upper six TOC bits; every add is accepted.
+pub cuts-give-the-frames-again : (s : State) → Ready s → Bytes (s .store) → (sd : Bool) (pieces : List Piece) → Nonempty pieces
     → together pieces ≡ held (s .rp) (s .store) → (e : State) → Empty e
     → let l = map (packed sd (upperSix (s .rp .toc))) pieces in
     AllAccepted e l × Holds (upperSix (s .rp .toc)) (afterAdds e l) (held (s .rp) (s .store))
 cuts-give-the-frames-again s r b sd pieces n same e z = cuts-held s r sd b pieces n same e z
 
--- From adds to outputs to adds: F are the frames of the packets that a collector which held nothing has accepted. F cut at any points, each range
+-- From adds to outputs to adds, strict and ordinary ones mixed in both: F are the frames of the packets that a collector which held nothing has accepted. F cut at any points, each range
 -- written by an output call into a destination with room, and what each call left in front added in order to any collector that holds nothing:
 -- every add is accepted, the frames held are F, and the upper six TOC bits are the same.
 pub packing-can-be-undone : (empty : State) → Empty empty → Bytes (empty .store) → (l : List Arrival) → AllBytes l

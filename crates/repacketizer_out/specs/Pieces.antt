@@ -11,22 +11,28 @@ use Rattle.opus_header.specs.Compact.{compact}
 use Rattle.repacketizer.specs.Runs.{State, Arrival}
 use Rattle.repacketizer_out.specs.Output.{range, outRange}
 
+-- a piece: its frames, and whether its packet is added strictly
+pub record Piece : Type 0 where
+  pub strict : Bool
+  pub frames : List (List ℕ)
+
 -- pieces of at least one frame each
-abbrev pub Nonempty : List (List (List ℕ)) → Type 0
+abbrev pub Nonempty : List Piece → Type 0
 Nonempty [] = Unit {0}
-Nonempty (piece ∷ pieces) = (1 ≤ length piece) × Nonempty pieces
+Nonempty (piece ∷ pieces) = (1 ≤ length (piece .frames)) × Nonempty pieces
 
 -- the frames of all pieces, in order
-abbrev pub together : List (List (List ℕ)) → List (List ℕ)
+abbrev pub together : List Piece → List (List ℕ)
 together [] = []
-together (piece ∷ pieces) = piece ++ together pieces
+together (piece ∷ pieces) = piece .frames ++ together pieces
 
 -- a piece as the packet of an add
-abbrev pub packed : Bool → ℕ → List (List ℕ) → Arrival
-packed sd six piece = record { sd = sd; packet = compact sd six piece }
+abbrev pub packed : Bool → ℕ → Piece → Arrival
+packed sd six piece = record { strict = piece .strict; sd = sd; packet = compact sd six (piece .frames) }
 
--- one output of a sequence: where its range ends and the next one begins, and its destination
+-- one output of a sequence: where its range ends and the next one begins, its destination, and whether what it leaves is added strictly
 pub record Cut : Type 0 where
+  pub strict : Bool
   pub end : ℕ
   pub dst : List ℕ
 
@@ -54,5 +60,5 @@ front o = go (o .report .number)
 abbrev pub outputsAdded : Bool → State → ℕ → List Cut → List Arrival
 outputsAdded sd s begin [] = []
 outputsAdded sd s begin (c ∷ more) =
-    record { sd = sd; packet = front (outRange sd false (s .rp) (s .store) (pos begin) (pos (c .end)) (c .dst)) }
+    record { strict = c .strict; sd = sd; packet = front (outRange sd false (s .rp) (s .store) (pos begin) (pos (c .end)) (c .dst)) }
     ∷ outputsAdded sd s (c .end) more

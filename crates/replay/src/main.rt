@@ -27,7 +27,8 @@ fn case(
 ) -> Line {
     match kind {
         2 => collect_case(input, c, work, store, out, at),
-        17 => places_case(input, c, work, store, out, at),
+        17 => places_case(input, c, work, store, out, at, false),
+        18 => places_case(input, c, work, store, out, at, true),
         3..=6 | 13..=16 => in_place_case(input, c, work, out, at, kind),
         _ => reading_case(input, c, work, out, at, kind),
     }

@@ -1,10 +1,12 @@
-// Kinds 2 and 17 of the replay protocol: an empty collector, adds, and an output; any collector, and adds with rule and place.
+// Kinds 2, 17 and 18 of the replay protocol: an empty collector, adds, and an output; any collector, and adds with rule and place, each ordinary or strict
+// in kind 18.
 mod state;
 
 use crate::state::State;
 use crate::state::collector_and_store;
 use crate::state::state_at;
 use opus_defines::Verdict;
+use repacketizer::Added;
 use repacketizer::OpusRepacketizer;
 use replay_io::input::ByteAt;
 use replay_io::input::Cursor;
@@ -101,9 +103,10 @@ struct Adding {
     came: usize,
     out: usize,
     rp: OpusRepacketizer,
-    // The store's bytes, and whether rule and place are told.
+    // The store's bytes, whether rule and place are told, and whether each packet comes with its kind.
     store: usize,
     places: bool,
+    kinds: bool,
 }
 
 fn no_more(s: Adding) -> Adding {
@@ -123,7 +126,24 @@ fn verdict(out: &mut [u8], at: usize, v: Verdict, places: bool) -> usize {
     put(out, next, b' ')
 }
 
-fn added(work: &[u8], n: usize, store: &mut [u8], out: &mut [u8], s: Adding, c: Cursor) -> Adding {
+// An add, strict or not.
+fn cat(rp: OpusRepacketizer, data: &[u8], store: &mut [u8], strict: bool) -> Added {
+    if strict {
+        repacketizer::strict::opus_repacketizer_cat_strict(rp, data, store)
+    } else {
+        repacketizer::opus_repacketizer_cat(rp, data, store)
+    }
+}
+
+fn added(
+    work: &[u8],
+    n: usize,
+    store: &mut [u8],
+    out: &mut [u8],
+    s: Adding,
+    c: Cursor,
+    strict: bool,
+) -> Adding {
     if work.len() < n {
         return no_more(s);
     }
@@ -132,7 +152,7 @@ fn added(work: &[u8], n: usize, store: &mut [u8], out: &mut [u8], s: Adding, c: 
         return no_more(s);
     }
     let rp = s.rp;
-    let a = repacketizer::opus_repacketizer_cat(rp, &work[0..n], &mut store[0..size]);
+    let a = cat(rp, &work[0..n], &mut store[0..size], strict);
     let v = a.verdict;
     let held = a.rp;
     Adding {
@@ -144,20 +164,44 @@ fn added(work: &[u8], n: usize, store: &mut [u8], out: &mut [u8], s: Adding, c: 
         rp: held,
         store: size,
         places: s.places,
+        kinds: s.kinds,
     }
 }
 
+// The kind of the next add: a byte, where kinds are given.
+fn kind_at(input: &mut [u8], c: Cursor, kinds: bool) -> ByteAt {
+    if !kinds {
+        return ByteAt::Is(0, c);
+    }
+    byte(input, c)
+}
+
 // One packet is read and added.
+fn add_packet(
+    input: &mut [u8],
+    work: &mut [u8],
+    store: &mut [u8],
+    out: &mut [u8],
+    s: Adding,
+    c: Cursor,
+    strict: bool,
+) -> Adding {
+    let NumberAt::Is(n, d) = bytes(input, c, work) else {
+        return no_more(s);
+    };
+    added(work, n, store, out, s, d, strict)
+}
+
 fn add(input: &mut [u8], work: &mut [u8], store: &mut [u8], out: &mut [u8], s: Adding) -> Adding {
     let c = Cursor {
         at: s.next,
         end: s.end,
         came: s.came,
     };
-    let NumberAt::Is(n, d) = bytes(input, c, work) else {
+    let ByteAt::Is(kind, d) = kind_at(input, c, s.kinds) else {
         return no_more(s);
     };
-    added(work, n, store, out, s, d)
+    add_packet(input, work, store, out, s, d, kind != 0)
 }
 
 fn add_all(
@@ -226,6 +270,7 @@ fn started(c: Cursor, at: usize) -> Adding {
         rp: repacketizer::opus_repacketizer_init(),
         store: repacketizer::LEAST_STORE,
         places: false,
+        kinds: false,
     }
 }
 
@@ -268,9 +313,9 @@ pub fn collect_case(
     add_case(input, d, work, store, out, at, o)
 }
 
-// ---- kind 17
+// ---- kinds 17 and 18
 
-fn started_at(at: usize, s: State) -> Adding {
+fn started_at(at: usize, s: State, kinds: bool) -> Adding {
     let rp = s.rp;
     Adding {
         whole: true,
@@ -281,6 +326,7 @@ fn started_at(at: usize, s: State) -> Adding {
         rp,
         store: s.store,
         places: true,
+        kinds,
     }
 }
 
@@ -316,10 +362,11 @@ pub fn places_case(
     store: &mut [u8],
     out: &mut [u8],
     at: usize,
+    kinds: bool,
 ) -> Line {
     let s = state_at(input, c, store);
     if !s.whole {
         return Line::Malformed;
     }
-    adds_told(input, work, store, out, started_at(at, s), s.adds)
+    adds_told(input, work, store, out, started_at(at, s, kinds), s.adds)
 }

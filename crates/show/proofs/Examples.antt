@@ -2,11 +2,11 @@
 -- Assumes nothing.
 use Prim.Native.Nat.{ℕ}
 use mathlib.Core.Path.{_≡_, refl}
-use mathlib.Core.List.{List, [], _∷_, map}
+use mathlib.Core.List.{List, [], _∷_, _++_, map}
 use lib.IntN.{ℤ, pos, negsuc}
 use Rattle.opus_defines.specs.Numbers.{refusalNumber}
 use Rattle.opus_defines.specs.declared.Refusal.{Refusal}
-use Rattle.opus_defines.specs.declared.Refusal.the-variants.{BadArg, BufferTooSmall, InvalidPacket, InvalidState, Unreadable, CutShort}
+use Rattle.opus_defines.specs.declared.Refusal.the-variants.{BadArg, BufferTooSmall, InvalidPacket, InvalidState, Unreadable, CutShort, DirtyPadding}
 use Rattle.opus_defines.specs.declared.Rule.the-variants.{R4, R7}
 use Rattle.show.specs.Text.{places, decimal, integer, refusedLabel, refusal}
 
@@ -21,13 +21,14 @@ pub integers : map (λ (x : ℤ). integer x) (pos 0 ∷ pos 10 ∷ negsuc 0 ∷ 
 unfolding integer decimal places
 integers = refl
 
--- "refused ", a number of one digit, and the end of the line
-abbrev refusedBy : ℕ → List ℕ
-refusedBy digit = 114 ∷ 101 ∷ 102 ∷ 117 ∷ 115 ∷ 101 ∷ 100 ∷ 32 ∷ 45 ∷ digit ∷ 10 ∷ []
+-- "refused ", a negative number of these digits, and the end of the line
+abbrev refusedBy : List ℕ → List ℕ
+refusedBy digits = 114 ∷ 101 ∷ 102 ∷ 117 ∷ 115 ∷ 101 ∷ 100 ∷ 32 ∷ 45 ∷ (digits ++ (10 ∷ []))
 
--- -1, -2, -4 and -6; rule and place are not told here
+-- -1, -2, -4, -6 and -20; rule and place are not told here
 pub refusals : map (λ (e : Refusal). refusal (refusalNumber e))
-    (BadArg ∷ BufferTooSmall ∷ InvalidPacket ∷ InvalidState ∷ Unreadable R7 5 ∷ CutShort R4 ∷ [])
-    ≡ refusedBy 49 ∷ refusedBy 50 ∷ refusedBy 52 ∷ refusedBy 54 ∷ refusedBy 52 ∷ refusedBy 49 ∷ []
+    (BadArg ∷ BufferTooSmall ∷ InvalidPacket ∷ InvalidState ∷ Unreadable R7 5 ∷ CutShort R4 ∷ DirtyPadding ∷ [])
+    ≡ refusedBy (49 ∷ []) ∷ refusedBy (50 ∷ []) ∷ refusedBy (52 ∷ []) ∷ refusedBy (54 ∷ []) ∷ refusedBy (52 ∷ []) ∷ refusedBy (49 ∷ [])
+    ∷ refusedBy (50 ∷ 48 ∷ []) ∷ []
 unfolding refusal refusedLabel integer decimal places
 refusals = refl

@@ -11,7 +11,7 @@ use mir.Val.{toZ, ofZ, SFits}
 use mir.ValLaws.{toZ-ofZ}
 use Rattle.opus_defines.specs.Numbers.{refusalNumber}
 use Rattle.opus_defines.specs.declared.Refusal.{Refusal}
-use Rattle.opus_defines.specs.declared.Refusal.the-variants.{BadArg, BufferTooSmall, InvalidPacket, InvalidState, Unreadable, CutShort}
+use Rattle.opus_defines.specs.declared.Refusal.the-variants.{BadArg, BufferTooSmall, InvalidPacket, InvalidState, Unreadable, CutShort, DirtyPadding}
 use Rattle.show.specs.Text.{decimal, integer, refusedLabel, refusal}
 use Rattle.show.proofs.Laid.{Three, front-room}
 use Rattle.show.proofs.Digits.{decimal-most}
@@ -29,13 +29,14 @@ refusal-passed InvalidPacket = refl
 refusal-passed InvalidState = refl
 refusal-passed (Unreadable rule place) = refl
 refusal-passed (CutShort rule) = refl
+refusal-passed DirtyPadding = refl
 
--- a refusal's number has one digit
-negative-most : (n : ℕ) → n < 10 → length (refusedLabel ++ (45 ∷ decimal n ++ (10 ∷ []))) ≤ 11
+-- a refusal's number has one digit or two
+negative-most : (n : ℕ) → n < 100 → length (refusedLabel ++ (45 ∷ decimal n ++ (10 ∷ []))) ≤ 12
 unfolding refusedLabel
-negative-most n h = simp length-append (omega (arith, decimal-most n 0 h))
+negative-most n h = simp length-append (omega (arith, decimal-most n 1 h))
 
-pub refusal-most : (e : Refusal) → length (refusal (refusalNumber e)) ≤ 11
+pub refusal-most : (e : Refusal) → length (refusal (refusalNumber e)) ≤ 12
 unfolding refusal integer
 refusal-most BadArg = negative-most 1 (omega arith)
 refusal-most BufferTooSmall = negative-most 2 (omega arith)
@@ -43,3 +44,4 @@ refusal-most InvalidPacket = negative-most 4 (omega arith)
 refusal-most InvalidState = negative-most 6 (omega arith)
 refusal-most (Unreadable rule place) = negative-most 4 (omega arith)
 refusal-most (CutShort rule) = negative-most 1 (omega arith)
+refusal-most DirtyPadding = negative-most 20 (omega arith)
