@@ -48,7 +48,7 @@ int32_t opus_multistream_packet_unpad(uint8_t *, int32_t, int);
 
 /* ---- a set */
 
-enum kind { COUNT, READ, READ_SELF, PACK, UNPAD, PAD, STREAMS_UNPAD, STREAMS_PAD };
+enum kind { COUNT, READ, READ_SELF, PACK, PACK_STRICT, UNPAD, PAD, STREAMS_UNPAD, STREAMS_PAD };
 enum side { NONE, OURS, CRATE, LIBOPUS, SIDES };
 static const char *side_names[] = {"none", "ours", "crate", "libopus"};
 
@@ -125,6 +125,15 @@ static int ours_pack(const struct set *s) {
     }
     return aveluafi_repacketizer_out(&our_rp, store, sizeof store, buffer, ROOM);
 }
+/* Strict adds; the other sides have none, and add as ever. */
+static int ours_pack_strict(const struct set *s) {
+    aveluafi_repacketizer_init(&our_rp);
+    for (int i = 0; i < s->packets; i++) {
+        int r = aveluafi_repacketizer_cat_strict(&our_rp, s->packet[i], s->len[i], store, sizeof store).number;
+        if (r != 0) return r;
+    }
+    return aveluafi_repacketizer_out(&our_rp, store, sizeof store, buffer, ROOM);
+}
 static int crate_pack(const struct set *s) {
     crate_repacketizer_init(crate_rp);
     for (int i = 0; i < s->packets; i++) {
@@ -169,6 +178,7 @@ static const struct {
     [READ] = {"reader", false, {none, ours_read, crate_read, libopus_read}},
     [READ_SELF] = {"reader, self-delimited", false, {none, ours_read_self, crate_read_self, libopus_read_self}},
     [PACK] = {"init, add, output", false, {none, ours_pack, crate_pack, libopus_pack}},
+    [PACK_STRICT] = {"init, strict add, output", false, {none, ours_pack_strict, crate_pack, libopus_pack}},
     [UNPAD] = {"unpad", true, {none, ours_unpad, crate_unpad, libopus_unpad}},
     [PAD] = {"pad", true, {none, ours_pad, crate_pad, libopus_pad}},
     [STREAMS_UNPAD] = {"multistream unpad", true, {none, ours_streams_unpad, crate_streams_unpad, libopus_streams_unpad}},
@@ -289,8 +299,13 @@ static void make(struct set *s, const char *key) {
     } else if (!strcmp(key, "voice-count")) {
         s->kind = COUNT, s->what = "voice, 40 bytes, code 0";
         forty(s);
-    } else if (!strcmp(key, "pack-3")) {
-        s->kind = PACK, s->what = "3 packets of 40, 45, 38 bytes";
+    } else if (!strcmp(key, "pack-6") || !strcmp(key, "strict-6")) {
+        s->kind = key[0] == 's' ? PACK_STRICT : PACK, s->what = "6 unequal frames, 200 bytes of padding";
+        int n[] = {39, 44, 37, 41, 40, 38};
+        add_packet(s, SILK_20, 3, n, 6, false, 200, false);
+        s->moved = total(n, 6);
+    } else if (!strcmp(key, "pack-3") || !strcmp(key, "strict-3")) {
+        s->kind = key[0] == 's' ? PACK_STRICT : PACK, s->what = "3 packets of 40, 45, 38 bytes";
         int n[] = {39, 44, 37};
         for (int i = 0; i < 3; i++) add_packet(s, SILK_20, 0, n + i, 1, false, 0, false);
         s->moved = total(n, 3);
@@ -299,8 +314,8 @@ static void make(struct set *s, const char *key) {
         s->kind = READ, s->what = equal ? "48 equal frames of 2.5 ms" : "48 unequal frames of 2.5 ms";
         for (int i = 0; i < 48; i++) sizes[i] = equal ? 20 : 15 + i % 11;
         add_packet(s, CELT_2_5, 3, sizes, 48, equal, 0, false);
-    } else if (!strcmp(key, "pack-48")) {
-        s->kind = PACK, s->what = "48 packets of one frame of 2.5 ms";
+    } else if (!strcmp(key, "pack-48") || !strcmp(key, "strict-48")) {
+        s->kind = key[0] == 's' ? PACK_STRICT : PACK, s->what = "48 packets of one frame of 2.5 ms";
         for (int i = 0; i < 48; i++) {
             sizes[i] = 15 + i % 11;
             add_packet(s, CELT_2_5, 0, sizes + i, 1, false, 0, false);
@@ -403,7 +418,8 @@ static void make(struct set *s, const char *key) {
 }
 
 static const char *keys[] = {
-    "voice", "voice-count", "read-6", "read-1275", "read-48-equal", "read-48-unequal", "pack-3", "pack-48", "unpad-6", "unpad-1275",
+    "voice", "voice-count", "read-6", "read-1275", "read-48-equal", "read-48-unequal", "pack-3", "pack-48", "pack-6",
+    "strict-3", "strict-48", "strict-6", "unpad-6", "unpad-1275",
     "streams-unpad", "pad-6-1275", "pad-6-65535", "streams-pad", "refused-R1", "refused-R2", "refused-R3", "refused-R4", "refused-R5-none",
     "refused-R5-long", "refused-R6", "refused-R6-padding", "refused-R7", "refused-self", NULL};
 static const char *growing[] = {"reader", "pack", "unpad", "pad", NULL};
