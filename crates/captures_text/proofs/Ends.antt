@@ -14,7 +14,8 @@ use Rattle.opus_defines.specs.Numbers.{refusalNumber}
 use Rattle.opus_defines.specs.declared.Refusal.the-variants.{BadArg}
 use Rattle.show.specs.Text.{refusal}
 use Rattle.show.proofs.Laid.{front-counts}
-use Rattle.show.proofs.Refusals.{refusal-passed, refusal-most}
+use Rattle.opus_defines.proofs.Others.{refusal-passed}
+use Rattle.show.proofs.Refusals.{refusal-most}
 use Rattle.captures_text.specs.Lines.{mostCapture, lineMost, Part, linesIn, partFrom}
 use Rattle.captures_text.proofs.Parts.{stop, part-read, part-full, part-refused, part-moves}
 

@@ -40,7 +40,7 @@ use Rattle.opus_header.specs.Forms.{compactBytes}
 use Rattle.opus_header.proofs.Forms.{compact-front, sums-few}
 use Rattle.opus_header.proofs.Standing.{compact-needs}
 use Rattle.show.proofs.Laid.{front-counts}
-use Rattle.show.proofs.Refusals.{refusal-passed}
+use Rattle.opus_defines.proofs.Others.{refusal-passed}
 use Rattle.listing_text.specs.Listing.{packetText, reportLine, refusedLine, listed, listing}
 use Rattle.listing_text.proofs.Room.{packet-most, report-most}
 

@@ -5,6 +5,7 @@ ghost use Prim.Native.Nat.{ℕ, _+_, _<_, _^_};
 ghost use lib.IntN.{pos};
 ghost use Rattle.opus_defines.specs.Numbers.{ruleNumber, refusalReport, refusalNumber, numberOf, reportOf, verdictNumber, verdictReport, countOf};
 ghost use Rattle.opus_defines.specs.Rules.{ruleRefusal, shifted};
+ghost use Rattle.opus_defines.specs.declared.Refusal.the-variants.{Unreadable};
 
 // Added, padded, nothing to pad.
 pub const OPUS_OK: u16 = 0;
@@ -95,46 +96,52 @@ pub enum Answer {
     Refused(Refusal),
 }
 
-// The number of a refusal, with rule and place.
+// The number of a refusal.
+fn plain_number(e: Refusal) -> i32
+    ensures { λ r. ⌜ r ≡ refusalNumber e ⌝ }
+{
+    match e {
+        Refusal::BadArg => -1,
+        Refusal::BufferTooSmall => -2,
+        Refusal::InvalidPacket => -4,
+        Refusal::InvalidState => -6,
+        Refusal::Unreadable(_, _) => -4,
+        Refusal::CutShort(_) => -1,
+        Refusal::DirtyPadding => -20,
+    }
+}
+
+// The report of a refusal other than that of an unreadable packet.
+fn other_report(e: Refusal) -> Report
+    ensures { λ r. ⌜ (((rule : Rule) (place : ℕ) → e ≡ Unreadable rule place → ⊥) → r ≡ refusalReport e) ⌝ }
+{
+    let number = plain_number(e);
+    let Refusal::CutShort(rule) = e else {
+        return Report {
+            number,
+            rule: 0,
+            place: 0,
+        };
+    };
+    Report {
+        number,
+        rule: rule_number(rule),
+        place: 0,
+    }
+}
+
+// The number of a refusal, with rule and place. An unreadable packet is asked for first, and the number of the others looked up: of one `match` a table of
+// jumps would be made, which costs every add.
 pub fn refusal_report(e: Refusal) -> Report
     ensures { λ r. ⌜ r ≡ refusalReport e ⌝ }
 {
-    match e {
-        Refusal::BadArg => Report {
-            number: -1,
-            rule: 0,
-            place: 0,
-        },
-        Refusal::BufferTooSmall => Report {
-            number: -2,
-            rule: 0,
-            place: 0,
-        },
-        Refusal::InvalidPacket => Report {
-            number: -4,
-            rule: 0,
-            place: 0,
-        },
-        Refusal::InvalidState => Report {
-            number: -6,
-            rule: 0,
-            place: 0,
-        },
-        Refusal::Unreadable(rule, place) => Report {
-            number: -4,
-            rule: rule_number(rule),
-            place,
-        },
-        Refusal::CutShort(rule) => Report {
-            number: -1,
-            rule: rule_number(rule),
-            place: 0,
-        },
-        Refusal::DirtyPadding => Report {
-            number: -20,
-            rule: 0,
-            place: 0,
-        },
+    let Refusal::Unreadable(rule, place) = e else {
+        return other_report(e);
+    };
+    Report {
+        number: -4,
+        rule: rule_number(rule),
+        place,
     }
 }
 

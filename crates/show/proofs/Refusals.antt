@@ -1,8 +1,7 @@
--- The line for a refusal: its parts, its length, and its number as a call is passed it.
+-- The line for a refusal: its parts and its length.
 -- Assumes nothing.
 use Prim.Native.Nat.{ℕ, _≤_, _<_}
 use native.Mathlib.Omega.{arith}
-use mathlib.Core.Path.{_≡_, refl}
 use mathlib.Core.List.{List, [], _∷_, _++_}
 use lib.IntN.{ℤ}
 use lib.ListN.{length, length-append}
@@ -21,15 +20,6 @@ pub refusal-parts : (l : List ℕ) (x : ℤ) → SFits w32 x → length (refusal
     → Three l 0 (refusal x) refusedLabel (integer (toZ w32 (ofZ w32 x))) (10 ∷ [])
 unfolding refusal
 refusal-parts l x f h = record { whole = rw (toZ-ofZ w32 x f); room = front-room l (refusal x) h }
-
-pub refusal-passed : (e : Refusal) → toZ w32 (ofZ w32 (refusalNumber e)) ≡ refusalNumber e
-refusal-passed BadArg = refl
-refusal-passed BufferTooSmall = refl
-refusal-passed InvalidPacket = refl
-refusal-passed InvalidState = refl
-refusal-passed (Unreadable rule place) = refl
-refusal-passed (CutShort rule) = refl
-refusal-passed DirtyPadding = refl
 
 -- a refusal's number has one digit or two
 negative-most : (n : ℕ) → n < 100 → length (refusedLabel ++ (45 ∷ decimal n ++ (10 ∷ []))) ≤ 12
