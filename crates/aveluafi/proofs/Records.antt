@@ -103,7 +103,8 @@ module _ (p : List ℕ) where
   pub long-record : 65535 < length p → packetRecord (noPacket BadArg) ≡ packetRecord (parsed false p)
   long-record h = ap packetRecord (parse-long false p h)
 
-  pub broken-record : length p ≤ 65535 → (rule : Rule) (place : ℕ) → read false p ≡ refused rule place → {e : Refusal} → e ≡ ruleRefusal rule place
+  pub broken-record : length p ≤ 65535 → (rule : Rule) (place : ℕ) → read false p ≡ refused rule place
+      → {e : Refusal} → e ≡ ruleRefusal rule place
       → packetRecord (noPacket e) ≡ packetRecord (parsed false p)
   broken-record h rule place q r = rw (← parse-read false p h, q, r)
 

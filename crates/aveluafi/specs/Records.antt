@@ -1,8 +1,8 @@
 -- The core's answers as the records that C sees: the verdict becomes its report, that is number, rule and place, and the other fields are the same.
 use Prim.Native.Nat.{ℕ}
 use mathlib.Core.List.{List}
-use lib.IntN.{pos}
-use Rattle.opus_defines.specs.Numbers.{plain, verdictReport}
+use Rattle.opus_defines.specs.Numbers.{verdictReport}
+use Rattle.opus_defines.specs.declared.Verdict.the-variants.{Accepted}
 use Rattle.opus_size.specs.declared.Size.{Size}
 use Rattle.opus.specs.declared.Packet.{Packet}
 use Rattle.opus.specs.declared.PacketHead.{PacketHead}
@@ -27,16 +27,11 @@ packetRecord p =
       «packet_offset» = p .taken;
     }
 
--- a packet that was read, with its lengths beside it
+-- of a packet that was read, with its lengths beside it
 abbrev pub wholeRecord : PacketHead → List ℕ → AveluafiPacket
 wholeRecord p lengths =
-    record {
-      report = plain (pos (p .count));
-      lengths = lengths;
-      toc = p .toc;
-      «payload_offset» = p .first;
-      «packet_offset» = p .taken;
-    }
+    packetRecord
+    (record { verdict = Accepted; toc = p .toc; count = p .count; lengths = lengths; first = p .first; taken = p .taken })
 
 abbrev pub captureRecord : NextRecord → AveluafiRecord
 captureRecord r =

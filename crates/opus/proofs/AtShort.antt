@@ -116,7 +116,8 @@ module _ (d : List ℕ) where
   short-counted n₀ n₁ n₂ = rw (eq-eqb (code (getD d 0 0)) 3 (omega arith))
 
 -- ---- a packet of code 0, 1 or 2: one frame or two behind at most three bytes, and nothing behind them
-layout-short : {six : ℕ} {head ns : List ℕ} {pad : ℕ} → Layout false six head ns pad → (code (getD head 0 0) ≡ 3 → ⊥) → longest ns ≤ mostBytes
+layout-short : {six : ℕ} {head ns : List ℕ} {pad : ℕ} → Layout false six head ns pad → (code (getD head 0 0) ≡ 3 → ⊥)
+    → longest ns ≤ mostBytes
     → length head + (total ns + pad) ≤ 2553
 layout-short (code0 n) c s = omega arith
 layout-short (code1 n) c s = omega arith
@@ -164,7 +165,8 @@ unfolding shortAt
 answered p bytes =
     by-test (eqb (code (getD p 0 0)) 3) (λ t. rw t other) (λ t. rw t (go (eqb-false (code (getD p 0 0)) 3 t) (read false p) refl))
   where
-    found : (code (getD p 0 0) ≡ 3 → ⊥) → (toc : ℕ) (ns : List ℕ) (first taken : ℕ) → read false p ≡ accepted toc ns first taken → ShortRead p ns first
+    found : (code (getD p 0 0) ≡ 3 → ⊥) → (toc : ℕ) (ns : List ℕ) (first taken : ℕ)
+        → read false p ≡ accepted toc ns first taken → ShortRead p ns first
     found c toc ns first taken q =
         let w = read-spelled false p toc ns first taken bytes q in
         let y : read false p ≡ accepted (getD p 0 0) ns first taken = rw (← w .toc-is) q in

@@ -1,37 +1,31 @@
 -- A refusal that a `let .. else` did not find, by the number of its kind.
---     not-four, not-five     the kinds that are left are not the one that was asked for
+--     not-among              a kind that is not among those that are left
 --     other-plain            a refusal of another kind has no rule and no place
 --     refusal-passed         its number, passed on as 32 bits, is the same
 -- Assumes nothing.
 use Prim.Native.Nat.{ℕ}
-use mathlib.Core.Path.{_≡_, refl}
-use mathlib.Core.List.{[], _∷_}
+use mathlib.Core.Path.{_≡_, refl, sym}
+use mathlib.Core.List.{List, [], _∷_}
+use mathlib.Core.Bool.{false}
 use mathlib.Core.Logic.{inl, inr}
+use lib.Dec.{eqb}
 use mir.Syntax.{w32}
-use mir.Val.{toZ, ofZ}
+use mir.Val.{hasKey, toZ, ofZ}
 use types.Run.{OneOf}
-use Rattle.laws.proofs.Never.{never}
+use borrow.Author.Tests.{eq-eqb}
+use Rattle.laws.proofs.Never.{never, by-test}
 use Rattle.opus_defines.specs.Numbers.{refusalReport, refusalNumber}
 use Rattle.opus_defines.specs.declared.Rule.{Rule}
 use Rattle.opus_defines.specs.declared.Refusal.{Refusal}
 use Rattle.opus_defines.specs.declared.Refusal.the-variants.{BadArg, BufferTooSmall, InvalidPacket, InvalidState, Unreadable, CutShort, DirtyPadding}
 
--- 4 is the kind of an unreadable packet, 5 that of a length cut short
-pub not-four : OneOf (0 ∷ 1 ∷ 2 ∷ 3 ∷ 5 ∷ 6 ∷ []) 4 → ⊥
-not-four (inl e) = never (cc)
-not-four (inr (inl e)) = never (cc)
-not-four (inr (inr (inl e))) = never (cc)
-not-four (inr (inr (inr (inl e)))) = never (cc)
-not-four (inr (inr (inr (inr (inl e))))) = never (cc)
-not-four (inr (inr (inr (inr (inr e))))) = never (cc)
-
-pub not-five : OneOf (0 ∷ 1 ∷ 2 ∷ 3 ∷ 4 ∷ 6 ∷ []) 5 → ⊥
-not-five (inl e) = never (cc)
-not-five (inr (inl e)) = never (cc)
-not-five (inr (inr (inl e))) = never (cc)
-not-five (inr (inr (inr (inl e)))) = never (cc)
-not-five (inr (inr (inr (inr (inl e))))) = never (cc)
-not-five (inr (inr (inr (inr (inr e))))) = never (cc)
+-- a number that is not among the keys of an arm, by computation, is none of them
+pub not-among : (ks : List ℕ) (x : ℕ) → hasKey ks x ≡ false → OneOf ks x → ⊥
+not-among [] x h o = absurd o
+not-among (k ∷ []) x h o = never (let q = rw (eq-eqb k x (sym o)) at h in cc)
+not-among (k ∷ k′ ∷ ks) x h (inl e) = never (let q = rw (eq-eqb k x (sym e)) at h in cc)
+not-among (k ∷ k′ ∷ ks) x h (inr o) =
+    by-test (eqb k x) (λ t. never (let q = rw t at h in cc)) (λ f. not-among (k′ ∷ ks) x (rw f at h) o)
 
 -- neither of the two
 pub other-plain : (e : Refusal) → ((rule : Rule) (place : ℕ) → e ≡ Unreadable rule place → ⊥) → ((rule : Rule) → e ≡ CutShort rule → ⊥)

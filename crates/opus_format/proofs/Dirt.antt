@@ -27,7 +27,8 @@ use Rattle.opus_format.proofs.Complete.{spelled-read}
 use Rattle.opus_format.proofs.Sound.{read-spelled}
 
 -- ---- the padding of the RFC's packet
-behind-frames : (head padding : List ℕ) (frames : List (List ℕ)) → drop (length head + total (lengths frames)) (head ++ (joined frames ++ padding)) ≡ padding
+behind-frames : (head padding : List ℕ) (frames : List (List ℕ))
+    → drop (length head + total (lengths frames)) (head ++ (joined frames ++ padding)) ≡ padding
 behind-frames head padding frames =
     rw (total-lengths frames, ← drop-drop (length (joined frames)) (length head) (head ++ (joined frames ++ padding)), drop-append-seam head)
     (drop-append-seam (joined frames) padding)
@@ -64,15 +65,18 @@ dirty-most (a ∷ s) =
 -- one padding byte, zero and not; two unequal frames and a dirty byte; a chain of 255 and 0 whose last padding byte is 1; padding lengths alone; no padding;
 -- padding that does not fit
 pub dirty-ones : map (dirtyPacket false)
-    ((0x03 ∷ 0x41 ∷ 0x01 ∷ 0xaa ∷ 0x00 ∷ []) ∷ (0x03 ∷ 0x41 ∷ 0x01 ∷ 0xaa ∷ 0x01 ∷ []) ∷ (0x03 ∷ 0xc2 ∷ 0x01 ∷ 0x01 ∷ 0xaa ∷ 0xbb ∷ 0x07 ∷ [])
-    ∷ (0x03 ∷ 0x41 ∷ 255 ∷ 0 ∷ 0xaa ∷ (replicate 253 0 ++ (1 ∷ []))) ∷ (0x03 ∷ 0x41 ∷ 0x00 ∷ 0xaa ∷ []) ∷ (0x00 ∷ 0xaa ∷ []) ∷ (0x03 ∷ 0x41 ∷ 0x02 ∷ 0x01 ∷ []) ∷ [])
+    ((0x03 ∷ 0x41 ∷ 0x01 ∷ 0xaa ∷ 0x00 ∷ []) ∷ (0x03 ∷ 0x41 ∷ 0x01 ∷ 0xaa ∷ 0x01 ∷ [])
+    ∷ (0x03 ∷ 0xc2 ∷ 0x01 ∷ 0x01 ∷ 0xaa ∷ 0xbb ∷ 0x07 ∷ [])
+    ∷ (0x03 ∷ 0x41 ∷ 255 ∷ 0 ∷ 0xaa ∷ (replicate 253 0 ++ (1 ∷ []))) ∷ (0x03 ∷ 0x41 ∷ 0x00 ∷ 0xaa ∷ [])
+    ∷ (0x00 ∷ 0xaa ∷ []) ∷ (0x03 ∷ 0x41 ∷ 0x02 ∷ 0x01 ∷ []) ∷ [])
     ≡ false ∷ true ∷ true ∷ true ∷ false ∷ false ∷ false ∷ []
 unfolding dirtyPacket read duration
 dirty-ones = refl
 
 -- self-delimited, where what stands behind the packet is no padding
 pub dirty-selves : map (dirtyPacket true)
-    ((0x00 ∷ 0x01 ∷ 0xaa ∷ 0x55 ∷ []) ∷ (0x03 ∷ 0x41 ∷ 0x01 ∷ 0x01 ∷ 0xaa ∷ 0x00 ∷ 0x55 ∷ []) ∷ (0x03 ∷ 0x41 ∷ 0x01 ∷ 0x01 ∷ 0xaa ∷ 0x07 ∷ []) ∷ [])
+    ((0x00 ∷ 0x01 ∷ 0xaa ∷ 0x55 ∷ []) ∷ (0x03 ∷ 0x41 ∷ 0x01 ∷ 0x01 ∷ 0xaa ∷ 0x00 ∷ 0x55 ∷ [])
+    ∷ (0x03 ∷ 0x41 ∷ 0x01 ∷ 0x01 ∷ 0xaa ∷ 0x07 ∷ []) ∷ [])
     ≡ false ∷ false ∷ true ∷ []
 unfolding dirtyPacket read duration
 dirty-selves = refl

@@ -78,14 +78,16 @@ pub strict-from-empty :
     ((0x03 ∷ 0x41 ∷ 0x01 ∷ 0xaa ∷ 0x00 ∷ []) ∷ (0x03 ∷ 0x41 ∷ 0x01 ∷ 0xaa ∷ 0x01 ∷ []) ∷ (0x03 ∷ 0x41 ∷ 0x02 ∷ 0xaa ∷ [])
     ∷ (0x03 ∷ 0xc2 ∷ 0x01 ∷ 0x01 ∷ 0xaa ∷ 0xbb ∷ 0x07 ∷ []) ∷ (0x03 ∷ 0x41 ∷ 255 ∷ 0 ∷ 0xaa ∷ (replicate 253 0 ++ (1 ∷ [])))
     ∷ (0x03 ∷ 0x41 ∷ 255 ∷ 0 ∷ 0xaa ∷ replicate 254 0) ∷ (0x03 ∷ 0x41 ∷ 0x00 ∷ 0xaa ∷ []) ∷ (0x00 ∷ 0xaa ∷ []) ∷ [])
-    ≡ plain (pos 0) ∷ plain (negsuc 19) ∷ breaks 6 2 ∷ plain (negsuc 19) ∷ plain (negsuc 19) ∷ plain (pos 0) ∷ plain (pos 0) ∷ plain (pos 0) ∷ []
+    ≡ plain (pos 0) ∷ plain (negsuc 19) ∷ breaks 6 2 ∷ plain (negsuc 19) ∷ plain (negsuc 19)
+    ∷ plain (pos 0) ∷ plain (pos 0) ∷ plain (pos 0) ∷ []
 unfolding addedStrictly dirtyPacket staysOut sound samples duration nbFrames read ruleRefusal
 strict-from-empty = refl
 
 -- 00 AA is held: a packet with other upper six bits, or over 120 ms with the one held, is refused as by an ordinary add, dirty or not
 pub strict-asks-last :
     strictReports (collector 0x00 1 80 (1 ∷ []))
-    ((0x07 ∷ 0x41 ∷ 0x01 ∷ 0xaa ∷ 0x01 ∷ []) ∷ (0x03 ∷ 0x4c ∷ 0x01 ∷ 0x01 ∷ []) ∷ (0x03 ∷ 0x41 ∷ 0x01 ∷ 0xaa ∷ 0x01 ∷ []) ∷ [])
+    ((0x07 ∷ 0x41 ∷ 0x01 ∷ 0xaa ∷ 0x01 ∷ []) ∷ (0x03 ∷ 0x4c ∷ 0x01 ∷ 0x01 ∷ [])
+    ∷ (0x03 ∷ 0x41 ∷ 0x01 ∷ 0xaa ∷ 0x01 ∷ []) ∷ [])
     ≡ plain (negsuc 3) ∷ plain (negsuc 3) ∷ plain (negsuc 19) ∷ []
 unfolding addedStrictly dirtyPacket staysOut sound samples duration nbFrames read ruleRefusal
 strict-asks-last = refl

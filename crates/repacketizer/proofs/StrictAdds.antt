@@ -80,7 +80,8 @@ module _ (sd : Bool) (rp : OpusRepacketizer) (p store : List ℕ) where
 
 -- ---- dirty padding
 -- such a packet can be read
-pub dirty-read : (sd : Bool) (p : List ℕ) → dirtyPacket sd p ≡ true → (toc : ℕ) × (ns : List ℕ) × (first : ℕ) × (end : ℕ) × (read sd p ≡ accepted toc ns first end)
+pub dirty-read : (sd : Bool) (p : List ℕ) → dirtyPacket sd p ≡ true
+    → (toc : ℕ) × (ns : List ℕ) × (first : ℕ) × (end : ℕ) × (read sd p ≡ accepted toc ns first end)
 unfolding dirtyPacket
 dirty-read sd p d = go (read sd p) refl d
   where

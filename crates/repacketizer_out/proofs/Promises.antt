@@ -115,9 +115,9 @@ pub cuts-give-the-frames-again : (s : State) → Ready s → Bytes (s .store) �
     AllAccepted e l × Holds (upperSix (s .rp .toc)) (afterAdds e l) (held (s .rp) (s .store))
 cuts-give-the-frames-again s r b sd pieces n same e z = cuts-held s r sd b pieces n same e z
 
--- From adds to outputs to adds, strict and ordinary ones mixed in both: F are the frames of the packets that a collector which held nothing has accepted. F cut at any points, each range
--- written by an output call into a destination with room, and what each call left in front added in order to any collector that holds nothing:
--- every add is accepted, the frames held are F, and the upper six TOC bits are the same.
+-- From adds to outputs to adds, strict and ordinary ones mixed in both: F are the frames of the packets that a collector which held nothing has accepted.
+-- F cut at any points, each range written by an output call into a destination with room, and what each call left in front added in order to any collector
+-- that holds nothing: every add is accepted, the frames held are F, and the upper six TOC bits are the same.
 pub packing-can-be-undone : (empty : State) → Empty empty → Bytes (empty .store) → (l : List Arrival) → AllBytes l
     → let s = afterAdds empty l in
     let frames = framesAccepted empty l in

@@ -159,7 +159,8 @@ module _ {M : Type 1} (𝓤 : URA M) (H : Heap 𝓤) (A : Atoms 𝓤) (W : Given
       → ent 𝓤 (⋆ 𝓤 H A ((‵ (flft κ q) ⊛ tokens) ∷ ‵ (fres γ (T.the-row .coded .code h′)) ∷ ‵ (finally u8 (store .name) zs)
       ∷ ‵ (R.the-row .own m (v ∷ [])) ∷ [])) (Post v)
   exits m v h′ zs l e =
-      qed W ((‵ (flft κ q) ⊛ tokens) ∷ ‵ (fres γ (T.the-row .coded .code h′)) ∷ ‵ (finally u8 (store .name) zs) ∷ ‵ (R.the-row .own m (v ∷ [])) ∷ []) ∵
+      qed W ((‵ (flft κ q) ⊛ tokens) ∷ ‵ (fres γ (T.the-row .coded .code h′)) ∷ ‵ (finally u8 (store .name) zs)
+      ∷ ‵ (R.the-row .own m (v ∷ [])) ∷ []) ∵
       suffices ! _ (ends-at 𝓤 H A f.ended stayed (f.clauses 𝓤 H A mem run) W bound v m (h′, (tt, (zs, tt))) (tt, (tt, (l, tt)))) $ says ! e $
       frame ! $ nothing ! $ move ! (2 ∷ 0 ∷ []) $ fjoin ! $ nothing ! $ fjoin ! $ move ! (1 ∷ 0 ∷ []) $ fjoin ! $ done !
 
@@ -170,7 +171,8 @@ module _ {M : Type 1} (𝓤 : URA M) (H : Heap 𝓤) (A : Atoms 𝓤) (W : Given
 
   goes-dirt : ent 𝓤 (⋆ 𝓤 H A (‵ own-packet ∷ ‵ (flft κ₁ q₁) ∷ [])) (Dirt 𝓤 H A mem run .pre to-dirt)
   goes-dirt =
-      qed W (‵ own-packet ∷ ‵ (flft κ₁ q₁) ∷ []) ∵ nothing ! $ owned ! bool (Is bool) (bool-makes 𝓤 H A W) false (vbool false ∷ []) refl $ fjoin ! $
+      qed W (‵ own-packet ∷ ‵ (flft κ₁ q₁) ∷ []) ∵ nothing ! $
+      owned ! bool (Is bool) (bool-makes 𝓤 H A W) false (vbool false ∷ []) refl $ fjoin ! $
       move ! (1 ∷ 0 ∷ []) $ fjoin ! $ nothing ! $ move ! (2 ∷ 0 ∷ []) $ join ! $ join ! $ frame ! $ done !
 
   abbrev Tells : Bool → Type 0
@@ -203,10 +205,12 @@ module _ {M : Type 1} (𝓤 : URA M) (H : Heap 𝓤) (A : Atoms 𝓤) (W : Given
   )
 
   goes-why : (α : ℕ) (δ : GName) → Is D.the-row (headOf h) (head-vals h) → Is usize n (vint w64 n ∷ [])
-      → ent 𝓤 (⋆ 𝓤 H A (‵ (own-lent α δ) ∷ ‵ (flft (α ∷ []) fullShare) ∷ (‵ own-packet ⊛ (‵ (flft κ₁ q₁) ⊛ ‵ ftrue)) ∷ []))
+      → ent 𝓤 (⋆ 𝓤 H A (‵ (own-lent α δ) ∷ ‵ (flft (α ∷ []) fullShare)
+      ∷ (‵ own-packet ⊛ (‵ (flft κ₁ q₁) ⊛ ‵ ftrue)) ∷ []))
       (Why 𝓤 H A mem run .pre (to-why α δ))
   goes-why α δ is is-n =
-      qed W (‵ (own-lent α δ) ∷ ‵ (flft (α ∷ []) fullShare) ∷ (‵ own-packet ⊛ (‵ (flft κ₁ q₁) ⊛ ‵ ftrue)) ∷ []) ∵ move ! (2 ∷ []) $ split ! $
+      qed W (‵ (own-lent α δ) ∷ ‵ (flft (α ∷ []) fullShare)
+      ∷ (‵ own-packet ⊛ (‵ (flft κ₁ q₁) ⊛ ‵ ftrue)) ∷ []) ∵ move ! (2 ∷ []) $ split ! $
       -- [the packet; its token; the lengths; their token]
       nothing ! $ owned ! usize (Is usize) (uint-makes 𝓤 H A W w64) n (vint w64 n ∷ []) is-n $ fjoin ! $ move ! (1 ∷ 0 ∷ []) $ fjoin ! $
       move ! (2 ∷ 0 ∷ []) $ fjoin ! $
@@ -255,7 +259,8 @@ module _ {M : Type 1} (𝓤 : URA M) (H : Heap 𝓤) (A : Atoms 𝓤) (W : Given
       qed W ((‵ (flft κ q) ⊛ tokens) ∷ ‵ (fsep own-ref slices) ∷ []) ∵ split ! $ move ! (2 ∷ []) $ fsplit ! $
       enter ! C Λ code.function (vptr b o ∷ p ∷ s ∷ []) _ $
       alloc1 ! (λ l₀. alloc1 ! (λ l₁. alloc1 ! (λ l₂. alloc1 ! (λ l₃. alloc1 ! (λ l₄. alloc1 ! (λ l₅. alloc1 ! (λ l₆. alloc1 ! (λ l₇.
-      alloc1 ! (λ l₈. alloc1 ! (λ l₉. alloc1 ! (λ l₁₀. alloc1 ! (λ l₁₁. alloc1 ! (λ l₁₂. alloc1 ! (λ l₁₃. alloc1 ! (λ l₁₄. alloc0 ! $ params1 ! $
+      alloc1 ! (λ l₈. alloc1 ! (λ l₉. alloc1 ! (λ l₁₀. alloc1 ! (λ l₁₁.
+      alloc1 ! (λ l₁₂. alloc1 ! (λ l₁₃. alloc1 ! (λ l₁₄. alloc0 ! $ params1 ! $
       pass1 ! (init ! 26 refl (tt, tt)) $ pass1 ! (init ! 24 refl (tt, (tt, (record { fits = room .0 }, tt)))) $
       pass1 ! (init ! 22 refl (tt, (tt, (record { fits = room′ .0 }, tt)))) $ pass0 ! $
       -- the test. [_14; …; to _1; …; room for _0; …; the reference; what the slices own; its token; their tokens]
@@ -266,7 +271,8 @@ module _ {M : Type 1} (𝓤 : URA M) (H : Heap 𝓤) (A : Atoms 𝓤) (W : Given
       -- [what the test asks; the store's token; the packet; the store; _14; …; to _1; …; room for _0; …; the reference; its token]
       calls-at ! fm (Dirt 𝓤 H A mem run) known-dirt to-dirt (and-then ! (local ! 28 refl) (and-then ! (false-lit !) (no-more !))) (λ w.
       use1 W (later (some (λ (t : Bool). ((‵ (flft κ₁ q₁) ⊛ ‵ ftrue) ⊛ ‵ (bool .own t (w ∷ [])))
-      ⊛ raw (ensured 𝓤 H A dirt.ended (dirt.clauses 𝓤 H A mem run) (κ₁, tt) (packet, (false, tt)) tt t)))) (id⊢ 𝓤 _) $ await ! tt $ pick ! (λ t.
+      ⊛ raw (ensured 𝓤 H A dirt.ended (dirt.clauses 𝓤 H A mem run) (κ₁, tt) (packet, (false, tt)) tt t)))) (id⊢ 𝓤 _) $
+      await ! tt $ pick ! (λ t.
       split ! $ move ! (1 ∷ []) $ use1 W (raw (fact 𝓤 (Tells t))) (dirt-says t) $
       heard ! (Tells t) (λ d. split ! $ move ! (1 ∷ []) $ facts ! bool (Is bool) (shows 𝓤 H A bool) t (w ∷ []) (λ is.
       -- [the packet's token, true; the store's token; the packet; the store; _14; …; to _1; …; room for _0; …; the reference; its token]
@@ -295,8 +301,10 @@ module _ {M : Type 1} (𝓤 : URA M) (H : Heap 𝓤) (A : Atoms 𝓤) (W : Given
       -- [what is asked; the store's token; what is kept; …; the open borrow; obs; auth; the store; _14; …; to _1; …; room for _0; …]
       calls-at ! fm (Why 𝓤 H A mem run) known-why (to-why α δ)
       (and-then ! (local ! 28 refl) (and-then ! (local ! 16 refl) (and-then ! (local ! 32 refl) (and-then ! (local ! 14 refl) (no-more !))))) (λ v.
-      use1 W (later (some (λ (e : Refusal). ((‵ (flft (α ∷ []) fullShare) ⊛ (‵ (flft κ₁ q₁) ⊛ ‵ ftrue)) ⊛ ‵ (E.the-row .own e (v ∷ [])))
-      ⊛ raw (ensured 𝓤 H A why.ended (why.clauses 𝓤 H A mem run) (to-why α δ .0 .0) (to-why α δ .0 .3) tt e)))) (id⊢ 𝓤 _) $ await ! tt $ pick ! (λ e.
+      use1 W (later (some (λ (e : Refusal).
+      ((‵ (flft (α ∷ []) fullShare) ⊛ (‵ (flft κ₁ q₁) ⊛ ‵ ftrue)) ⊛ ‵ (E.the-row .own e (v ∷ [])))
+      ⊛ raw (ensured 𝓤 H A why.ended (why.clauses 𝓤 H A mem run) (to-why α δ .0 .0) (to-why α δ .0 .3) tt e)))) (id⊢ 𝓤 _) $
+      await ! tt $ pick ! (λ e.
       split ! $ move ! (1 ∷ []) $ use1 W (raw (fact 𝓤 (Is-why e))) (why-says α δ e) $
       heard ! (Is-why e) (λ y. split ! $ move ! (1 ∷ []) $ peeks ! E.the-row (Is E.the-row) (shows 𝓤 H A E.the-row) e (v ∷ []) (λ is-e.
       -- [what the refusal owns; the two tokens; the store's token; what is kept; …; the open borrow; obs; auth; the store; _14; …]
@@ -331,7 +339,8 @@ module _ {M : Type 1} (𝓤 : URA M) (H : Heap 𝓤) (A : Atoms 𝓤) (W : Given
       assigns ! (agg ! (and-then ! (local ! 5 refl) (and-then ! (load ! (from ! (fld ! refl (stop !))) (look-in ! 25 (sub ! 1 refl (whole !)))) (no-more !))))
       (here !) (init ! 3 refl (tt, (tt, (record { fits = room′ .0 }, tt)))) $
       -- the ordinary add
-      move ! (1 ∷ 2 ∷ []) $ fjoin ! $ move ! (33 ∷ 1 ∷ []) $ join ! $ move ! (32 ∷ 1 ∷ 0 ∷ []) $ use3 W (raw (Core 𝓤 H A mem run .pre to-core)) goes-core $
+      move ! (1 ∷ 2 ∷ []) $ fjoin ! $ move ! (33 ∷ 1 ∷ []) $ join ! $ move ! (32 ∷ 1 ∷ 0 ∷ []) $
+      use3 W (raw (Core 𝓤 H A mem run .pre to-core)) goes-core $
       -- [what it asks; _14; …; to _1; …; room for _0; …]
       calls-at ! fm (Core 𝓤 H A mem run) known-core to-core
       (and-then ! (local ! 5 refl) (and-then ! (local ! 25 refl) (and-then ! (local ! 1 refl) (no-more !)))) (λ v.
