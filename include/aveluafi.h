@@ -142,6 +142,7 @@ struct aveluafi_repacketizer {
     uint16_t nb_frames;
     uint16_t framesize;               /* samples of a frame at 8 kHz */
     uint16_t len[AVELUAFI_MOST_FRAMES];
+    uint8_t packet[AVELUAFI_MOST_FRAMES]; /* the number of the accepted packet that a frame came in, from 0 since the collector was last empty */
 };
 
 /* Makes any memory of this size an empty collector; a reset is the same. */
@@ -170,6 +171,11 @@ int32_t aveluafi_repacketizer_out_range(const struct aveluafi_repacketizer *rp, 
 /* The same in the named delimiting; with pad the packet fills data, and data_len is answered. */
 int32_t aveluafi_repacketizer_out_range_impl(const struct aveluafi_repacketizer *rp, const uint8_t *store, size_t store_len, int32_t begin, int32_t end,
                                              uint8_t *data, size_t data_len, bool self_delimited, bool pad);
+
+/* Writes the frames that came in the accepted packet with this number, 0 for the first since the collector was last empty, as one ordinary packet, and
+ * answers its bytes: what unpadding that packet would have left. A refused packet has no number. -1 for a number that no frame held has, then -2. */
+int32_t aveluafi_repacketizer_out_packet(const struct aveluafi_repacketizer *rp, const uint8_t *store, size_t store_len, int32_t number, uint8_t *data,
+                                         size_t data_len);
 
 /* ---- pad and unpad, in place
  *

@@ -1,11 +1,12 @@
 // The collector, lent to each call and updated there, as in the crate; exported. Each call takes it by reference, reads its head, lends its
-// lengths on to the core, and is proved by a walk of its code by hand (proofs/Lent.antt and Heads.antt have what the walks share).
+// lengths and numbers on to the core, and is proved by a walk of its code by hand (proofs/Lent.antt and Heads.antt have what the walks share).
 ghost use mathlib.Core.Path.{_≡_};
 ghost use mathlib.Core.Bool.{false};
 ghost use Rattle.opus_defines.specs.Numbers.{numberOf};
 ghost use Rattle.repacketizer.specs.Collector.{empty, nbFramesHeld};
-ghost use Rattle.repacketizer.specs.Adding.{addedReport, added, addedStrictly};
+ghost use Rattle.repacketizer.specs.Adding.{addedReport, added, addedStrictly, addedBy};
 ghost use Rattle.repacketizer_out.specs.Output.{outRange, outAll};
+ghost use Rattle.repacketizer_out.specs.Numbered.{outNumbered};
 use opus_defines::Report;
 use repacketizer::Head;
 use repacketizer::OpusRepacketizer;
@@ -19,6 +20,27 @@ pub extern "C" fn aveluafi_repacketizer_init(rp: &mut OpusRepacketizer)
     rp.nb_frames = 0;
     rp.framesize = opus_toc::Samples8k(0);
     rp.len = [0u16; 48];
+    rp.packet = [0u8; 48];
+}
+
+// Adds an ordinary packet, strictly or not. One function for both kinds: with two the core would have two callers and be compiled as a function of its
+// own, which costs an add more than the flag. The packet's slice is read before anything is stored, so that it comes in registers.
+fn cat_by(rp: &mut OpusRepacketizer, data: &[u8], store: &mut [u8], strict: bool) -> Report
+    ensures { λ r. ⌜ (r ≡ addedReport (addedBy strict false (now (rp .entry)) (now («data» .entry)) (now (store .entry)) .answer))
+        × (now (rp .exit) ≡ addedBy strict false (now (rp .entry)) (now («data» .entry)) (now (store .entry)) .answer .rp)
+        × (now (store .exit) ≡ addedBy strict false (now (rp .entry)) (now («data» .entry)) (now (store .entry)) .store) ⌝ }
+{
+    let h = Head {
+        toc: rp.toc,
+        nb_frames: rp.nb_frames,
+        framesize: rp.framesize,
+    };
+    let d = &data[..];
+    let a = repacketizer::add(h, &mut rp.len, &mut rp.packet, d, false, strict, store);
+    rp.toc = a.toc;
+    rp.nb_frames = a.count as u16;
+    rp.framesize = a.framesize;
+    opus_defines::verdict_report(0, a.verdict)
 }
 
 // Adds an ordinary packet, and answers 0; a refusal of the reader with rule and place.
@@ -32,20 +54,10 @@ pub extern "C" fn aveluafi_repacketizer_cat(
         × (now (rp .exit) ≡ added false (now (rp .entry)) (now («data» .entry)) (now (store .entry)) .answer .rp)
         × (now (store .exit) ≡ added false (now (rp .entry)) (now («data» .entry)) (now (store .entry)) .store) ⌝ }
 {
-    let h = Head {
-        toc: rp.toc,
-        nb_frames: rp.nb_frames,
-        framesize: rp.framesize,
-    };
-    let a = repacketizer::add(h, &mut rp.len, data, false, store);
-    rp.toc = a.toc;
-    rp.nb_frames = a.count as u16;
-    rp.framesize = a.framesize;
-    opus_defines::verdict_report(0, a.verdict)
+    cat_by(rp, data, store, false)
 }
 
-// The same, but that a packet with a padding byte other than zero is refused by -20, last of all (document 02, M-105). It hands on to the call above, so
-// that an ordinary add costs what it did.
+// The same, but that a packet with a padding byte other than zero is refused by -20, last of all (document 02, M-105).
 #[no_mangle]
 pub extern "C" fn aveluafi_repacketizer_cat_strict(
     rp: &mut OpusRepacketizer,
@@ -56,16 +68,7 @@ pub extern "C" fn aveluafi_repacketizer_cat_strict(
         × (now (rp .exit) ≡ addedStrictly false (now (rp .entry)) (now («data» .entry)) (now (store .entry)) .answer .rp)
         × (now (store .exit) ≡ addedStrictly false (now (rp .entry)) (now («data» .entry)) (now (store .entry)) .store) ⌝ }
 {
-    if repacketizer::strict::has_dirt(data, false) {
-        let h = Head {
-            toc: rp.toc,
-            nb_frames: rp.nb_frames,
-            framesize: rp.framesize,
-        };
-        let e = repacketizer::strict::dirty_refusal(h, &rp.len, data, store.len());
-        return opus_defines::refusal_report(e);
-    }
-    aveluafi_repacketizer_cat(rp, data, store)
+    cat_by(rp, data, store, true)
 }
 
 // The frames held.
@@ -78,7 +81,7 @@ pub extern "C" fn aveluafi_repacketizer_get_nb_frames(rp: &OpusRepacketizer) -> 
         nb_frames: rp.nb_frames,
         framesize: rp.framesize,
     };
-    repacketizer::nb_frames(h, &rp.len)
+    repacketizer::nb_frames(h, &rp.len, &rp.packet)
 }
 
 // Writes the frames begin..end as one packet in the named delimiting, which fills `data` where padding is asked for, and answers its bytes.
@@ -100,7 +103,17 @@ pub extern "C" fn aveluafi_repacketizer_out_range_impl(
         nb_frames: rp.nb_frames,
         framesize: rp.framesize,
     };
-    repacketizer_out::out_lent(h, &rp.len, store, begin, end, data, self_delimited, pad)
+    repacketizer_out::out_lent(
+        h,
+        &rp.len,
+        &rp.packet,
+        store,
+        begin,
+        end,
+        data,
+        self_delimited,
+        pad,
+    )
 }
 
 // The same, ordinary and without padding.
@@ -129,4 +142,19 @@ pub extern "C" fn aveluafi_repacketizer_out(
         × (now («data» .exit) ≡ outAll (now (rp .entry)) (now (store .entry)) (now («data» .entry)) .bytes) ⌝ }
 {
     aveluafi_repacketizer_out_range_impl(rp, store, 0, rp.nb_frames as i32, data, false, false)
+}
+
+// The frames that came in the accepted packet with this number, from 0 since the collector was last empty (document 02, M-107).
+#[no_mangle]
+pub extern "C" fn aveluafi_repacketizer_out_packet(
+    rp: &OpusRepacketizer,
+    store: &[u8],
+    number: i32,
+    data: &mut [u8],
+) -> i32
+    ensures { λ r. ⌜ (r ≡ outNumbered (now (rp .entry)) (now (store .entry)) number (now («data» .entry)) .report .number)
+        × (now («data» .exit) ≡ outNumbered (now (rp .entry)) (now (store .entry)) number (now («data» .entry)) .bytes) ⌝ }
+{
+    let r = repacketizer_out::by_number::range_of(rp.nb_frames, &rp.packet, number);
+    aveluafi_repacketizer_out_range_impl(rp, store, r.begin, r.end, data, false, false)
 }

@@ -2,14 +2,15 @@
 --     table-rule        a table that passes one test at all 256 TOC bytes gives the samples of the RFC's configurations
 --     formula-agrees    the crate's formula gives them too, at every TOC byte and rate
 --     scaled            at each rate they are those at 48 kHz, scaled
+--     celt-8k, ..       at 8 kHz, by the tests of the code
 --     lasts-at          120 ms counted in samples at a rate are 120 ms by the RFC's durations
 -- Assumes nothing.
-use Prim.Native.Nat.{ℕ, _*_, _/_, _≤_, _<_}
+use Prim.Native.Nat.{ℕ, _+_, _*_, _/_, _%_, _≤_, _<_}
 use native.Mathlib.Nat.{mul-left-comm, mul-le-mul}
 use native.Mathlib.Omega.{arith}
 use mathlib.Core.Path.{_≡_, refl, ap, sym, _∙_}
-use mathlib.Core.List.{List}
-use mathlib.Core.Bool.{Bool, true, false}
+use mathlib.Core.List.{List, [], _∷_}
+use mathlib.Core.Bool.{Bool, true, false, cond}
 use lib.Dec.{eqb, leb}
 use lib.ListN.{getD}
 use borrow.Author.Tests.{eqb-true, leb-true, leb-false, le-leb, lt-leb}
@@ -42,6 +43,34 @@ pub scaled : (rate : ℕ) → isRate rate ≡ true → (toc : ℕ) → toc < 256
     → samples 48000 (configuration toc) / (48000 / rate) ≡ samples rate (configuration toc)
 unfolding samples duration
 scaled = at-rates 256 (λ r k. samples 48000 (configuration k) / (48000 / r)) (λ r k. samples r (configuration k)) refl
+
+-- at 8 kHz by two tests of the TOC byte, one test at all 256
+abbrev pub celts : List ℕ
+celts = 20 ∷ 40 ∷ 80 ∷ 160 ∷ []
+
+abbrev pub silks : List ℕ
+silks = 80 ∷ 160 ∷ 320 ∷ 480 ∷ []
+
+abbrev tested : ℕ → ℕ
+tested toc =
+    cond (leb 128 toc) (getD celts (toc / 8 % 4) 0) (cond (leb 96 toc) (getD celts (toc / 8 % 2 + 2) 0) (getD silks (toc / 8 % 4) 0))
+
+pub at-last : (l : List ℕ) (i : ℕ) → i < 4 → (i ≡ 0 → ⊥) → (i ≡ 1 → ⊥) → (i ≡ 2 → ⊥) → getD l 3 0 ≡ getD l i 0
+at-last l i h a b d = let e : i ≡ 3 = omega arith in rw e
+
+module _ (toc : ℕ) (byte : toc < 256) where
+  by-tests : tested toc ≡ samples 8000 (configuration toc)
+  unfolding samples duration
+  by-tests = equal-below 256 tested (λ k. samples 8000 (configuration k)) refl toc byte
+
+  pub celt-8k : 128 ≤ toc → getD celts (toc / 8 % 4) 0 ≡ samples 8000 (configuration toc)
+  celt-8k h = rw (le-leb 128 toc h) at by-tests
+
+  pub hybrid-8k : toc < 128 → 96 ≤ toc → getD celts (toc / 8 % 2 + 2) 0 ≡ samples 8000 (configuration toc)
+  hybrid-8k h k = rw (lt-leb 128 toc h, le-leb 96 toc k) at by-tests
+
+  pub silk-8k : toc < 128 → toc < 96 → getD silks (toc / 8 % 4) 0 ≡ samples 8000 (configuration toc)
+  silk-8k h k = rw (lt-leb 128 toc h, lt-leb 96 toc k) at by-tests
 
 -- no sample is lost: 10,000 frames have as many samples as the rate times the duration in tenths of a millisecond
 exact : (rate : ℕ) → isRate rate ≡ true → (c : ℕ) → c < 32 → 10000 * samples rate c ≡ rate * duration c

@@ -2,8 +2,10 @@
 mod table;
 
 ghost use mathlib.Core.Path.{_≡_};
+ghost use mathlib.Core.List.{[], _∷_};
 ghost use Prim.Native.Nat.{_*_, _<_, _≤_};
 ghost use lib.Dec.{leb};
+ghost use lib.ListN.{getD};
 ghost use Rattle.opus_defines.specs.Numbers.{numberOf};
 ghost use Rattle.opus_toc.specs.Toc.{configuration, samples, time};
 ghost use Rattle.opus_toc.specs.Answers.{divisorOf, samplesAt, samplesPerFrame, nbFrames};
@@ -46,11 +48,43 @@ pub fn samples_48k(toc: u8) -> Samples48k
     }
 }
 
+// 2.5, 5, 10 or 20 ms.
+fn celt_8k(i: u8) -> Samples8k
+    requires { ⌜ i < 4 ⌝ }
+    ensures { λ r. ⌜ r .0 ≡ getD (20 ∷ 40 ∷ 80 ∷ 160 ∷ []) i 0 ⌝ }
+{
+    match i {
+        0 => Samples8k(20),
+        1 => Samples8k(40),
+        2 => Samples8k(80),
+        _ => Samples8k(160),
+    }
+}
+
+// 10, 20, 40 or 60 ms.
+fn silk_8k(i: u8) -> Samples8k
+    requires { ⌜ i < 4 ⌝ }
+    ensures { λ r. ⌜ r .0 ≡ getD (80 ∷ 160 ∷ 320 ∷ 480 ∷ []) i 0 ⌝ }
+{
+    match i {
+        0 => Samples8k(80),
+        1 => Samples8k(160),
+        2 => Samples8k(320),
+        _ => Samples8k(480),
+    }
+}
+
+// At 8 kHz, for every add and output: by tests, since a long `match` weighs so much with the compiler that it makes functions of their own of what uses it.
 pub fn samples_8k(toc: u8) -> Samples8k
     ensures { λ r. ⌜ r .0 ≡ samples 8000 (configuration toc) ⌝ }
 {
-    let at_48k = samples_48k(toc);
-    Samples8k(at_48k.0 / 6)
+    if 128 <= toc {
+        return celt_8k(toc / 8 % 4);
+    }
+    if 96 <= toc {
+        return celt_8k(toc / 8 % 2 + 2);
+    }
+    silk_8k(toc / 8 % 4)
 }
 
 // How long so many frames last, in samples at 48 kHz.

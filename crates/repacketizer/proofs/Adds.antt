@@ -39,13 +39,13 @@ use Rattle.blocks.specs.Blocks.{copied}
 use Rattle.repacketizer.specs.declared.OpusRepacketizer.{OpusRepacketizer}
 use Rattle.repacketizer.specs.declared.Head.{Head}
 use Rattle.repacketizer.specs.declared.AddedHead.{AddedHead}
-use Rattle.repacketizer.specs.Collector.{heldLengths, leastStore, sound}
-use Rattle.repacketizer.specs.Adding.{Adding, noAdd, goesWith, apart, saidFrames, staysOut, withFrames, readAdds, adds, addPacket, added}
+use Rattle.repacketizer.specs.Collector.{heldLengths, leastStore, framed, sound}
+use Rattle.repacketizer.specs.Adding.{Adding, noAdd, goesWith, apart, saidFrames, staysOut, withFrames, readAdds, packetAdds, adds, addPacket, added}
 use Rattle.repacketizer.specs.Adding.{Addition, refusal, takes, leavesAdd}
-use Rattle.repacketizer.specs.Parts.{collectorOf, refusedHead, moreFrames, addBlock, whyNot, addedOf}
+use Rattle.repacketizer.specs.Parts.{collectorOf, bare, refusedHead, moreFrames, addBlock, whyNot, addedOf}
 use Rattle.opus_format.proofs.Lengths.{total-most}
 use Rattle.repacketizer.proofs.Held.{holding}
-use Rattle.repacketizer.proofs.Sound.{Timed, timed-lasts, lasts-timed, none-sound, sound-full}
+use Rattle.repacketizer.proofs.Sound.{Timed, timed-lasts, lasts-timed, none-sound, framed-full}
 
 -- ---- whether frames go with those held
 module _ (rp : OpusRepacketizer) (toc n : ℕ) where
@@ -59,16 +59,16 @@ module _ (rp : OpusRepacketizer) (toc n : ℕ) where
     pub goes-time : upperSix toc ≡ upperSix (rp .toc) → leb ((rp .«nb_frames» + n) * rp .framesize .0) 960 ≡ goesWith rp toc n
     goes-time s = rw (ne-eqb (rp .«nb_frames») 0 z, eq-eqb (upperSix toc) (upperSix (rp .toc)) s)
 
-    goes-timed : sound rp ≡ true → goesWith rp toc n ≡ true → Timed (rp .toc) (rp .«nb_frames» + n) (rp .framesize .0)
+    goes-timed : framed rp ≡ true → goesWith rp toc n ≡ true → Timed (rp .toc) (rp .«nb_frames» + n) (rp .framesize .0)
     goes-timed s g =
         let t = rw (ne-eqb (rp .«nb_frames») 0 z) at g in
         record {
-          size = sound-full rp z s .timed .size;
+          size = framed-full rp z s .timed .size;
           time = both-right (eqb (upperSix toc) (upperSix (rp .toc))) (leb ((rp .«nb_frames» + n) * rp .framesize .0) 960) t;
         }
 
 -- ---- those held and the new ones
-module _ (rp : OpusRepacketizer) (toc : ℕ) (ns : List ℕ) (s : sound rp ≡ true) (g : goesWith rp toc (length ns) ≡ true) where
+module _ (rp : OpusRepacketizer) (toc : ℕ) (ns : List ℕ) (s : framed rp ≡ true) (g : goesWith rp toc (length ns) ≡ true) where
   pub with-few : rp .toc < 256 → length ns ≤ 48 → rp .«nb_frames» + length ns ≤ 48
   with-few b h =
       by-test (eqb (rp .«nb_frames») 0) (λ e. omega (arith, eqb-true (rp .«nb_frames») 0 e))
@@ -102,8 +102,8 @@ module _ (h : Head) (count : ℕ) (e : count ≡ h .«nb_frames») where
     more-later z = rw (ne-eqb (h .«nb_frames») 0 (λ y. z (e ∙ y)), e)
 
 -- a refused add, as the code hands it back
-pub refused-as : {a : Adding} {e : Refusal} {h : Head} {len store : List ℕ} {r : AddedHead} → a ≡ noAdd e (collectorOf h len) store
-    → (r ≡ refusedHead e h) × (r .count < 65536) → (addedOf r len ≡ a .answer) × ((store ≡ a .store) × (r .count < 65536))
+pub refused-as : {a : Adding} {e : Refusal} {h : Head} {len packet store : List ℕ} {r : AddedHead} → a ≡ noAdd e (collectorOf h len packet) store
+    → (r ≡ refusedHead e h) × (r .count < 65536) → (addedOf r len packet ≡ a .answer) × ((store ≡ a .store) × (r .count < 65536))
 refused-as p q = (rw (p, q .0), (rw p, q .1))
 
 -- ---- what 001 asks before it reads
@@ -143,16 +143,16 @@ said-few (toc ∷ s) = go (code toc) s
     go (suc (suc zero)) s = omega arith
     go (suc (suc (suc c))) s = counted s
 
--- whatever the lengths held
-pub stays-lengths : (h : Head) (l m p : List ℕ) → staysOut (collectorOf h l) p ≡ staysOut (collectorOf h m) p
+-- whatever the lengths and numbers held
+pub stays-lengths : (h : Head) (l m k n p : List ℕ) → staysOut (collectorOf h l k) p ≡ staysOut (collectorOf h m n) p
 unfolding staysOut
-stays-lengths h l m [] = refl
-stays-lengths h l m (toc ∷ s) = refl
+stays-lengths h l m k n [] = refl
+stays-lengths h l m k n (toc ∷ s) = refl
 
 -- so a refusal is what the code finds without them
-pub why-refused : (h : Head) (len p store : List ℕ) (e : Refusal) {x : Refusal} {a : Adding} → x ≡ whyNot (collectorOf h []) p e
-    → a ≡ noAdd (whyNot (collectorOf h len) p e) (collectorOf h len) store → a ≡ noAdd x (collectorOf h len) store
-why-refused h len p store e q g = rw q (rw (stays-lengths h [] len p) g)
+pub why-refused : (h : Head) (len p store : List ℕ) (e : Refusal) {x : Refusal} {a : Adding} → x ≡ whyNot (bare h []) p e
+    → a ≡ noAdd (whyNot (bare h len) p e) (bare h len) store → a ≡ noAdd x (bare h len) store
+why-refused h len p store e q g = rw q (rw (stays-lengths h [] len [] [] p) g)
 
 -- a packet that is said to have n frames, by the tests of the code
 module _ (rp : OpusRepacketizer) (p : List ℕ) where
@@ -197,44 +197,48 @@ module _ (rp : OpusRepacketizer) (toc : ℕ) (ns p : List ℕ) (first : ℕ) (st
   unfolding addBlock
   block-added g = rw g
 
--- ---- the same as the code makes it, of the collector with a head and lengths
+-- ---- the same as the code makes it, of the collector with a head and lengths, its numbers left aside
+sets-none : (at : ℕ) (vs : List ℕ) → sets [] at vs ≡ []
+sets-none at [] = refl
+sets-none at (v ∷ vs) = sets-none (suc at) vs
+
 -- frames of lengths ns go with those held, and so are few and fit the store
 pub record Joins (h : Head) (len : List ℕ) (toc : ℕ) (ns : List ℕ) : Type 0 where
-  pub goes : goesWith (collectorOf h len) toc (length ns) ≡ true
+  pub goes : goesWith (bare h len) toc (length ns) ≡ true
   pub few : h .«nb_frames» + length ns ≤ 48
-  pub room : total (heldLengths (collectorOf h len)) + total ns ≤ leastStore
+  pub room : total (heldLengths (bare h len)) + total ns ≤ leastStore
 
-module _ (h : Head) (len : List ℕ) (b : h .toc < 256) (l : length len ≡ 48) (s : sound (collectorOf h len) ≡ true) where
+module _ (h : Head) (len : List ℕ) (b : h .toc < 256) (l : length len ≡ 48) (s : framed (bare h len) ≡ true) where
   pub head-few : h .«nb_frames» ≤ 48
-  head-few = holding (collectorOf h len) b l s .few
+  head-few = holding (bare h len) b l s .few
 
   -- g says that they go together
-  pub joins : (toc : ℕ) (ns : List ℕ) {g : Bool} → g ≡ goesWith (collectorOf h []) toc (length ns) → not g ≡ false
+  pub joins : (toc : ℕ) (ns : List ℕ) {g : Bool} → g ≡ goesWith (bare h []) toc (length ns) → not g ≡ false
       → length ns ≤ 48 → longest ns ≤ mostBytes → Joins h len toc ns
   joins toc ns e t few small =
-      let goes : goesWith (collectorOf h len) toc (length ns) ≡ true = sym e ∙ not-false _ t in
+      let goes : goesWith (bare h len) toc (length ns) ≡ true = sym e ∙ not-false _ t in
       record {
         goes = goes;
-        few = with-few (collectorOf h len) toc ns s goes b few;
-        room = with-room (collectorOf h len) toc ns s goes b l few small;
+        few = with-few (bare h len) toc ns s goes b few;
+        room = with-room (bare h len) toc ns s goes b l few small;
       }
 
 module _ (h : Head) (len : List ℕ) (toc : ℕ) (ns p : List ℕ) (first : ℕ) (store : List ℕ) where
   -- g says that they do not
-  pub block-stays : {g : Bool} → g ≡ goesWith (collectorOf h []) toc (length ns) → not g ≡ true
+  pub block-stays : {g : Bool} → g ≡ goesWith (bare h []) toc (length ns) → not g ≡ true
       → {r : AddedHead} → (r ≡ refusedHead InvalidPacket h) × (r .count < 65536)
-      → let block = addBlock (collectorOf h len) toc ns p first store in
-      (addedOf r len ≡ block .answer) × ((store ≡ block .store) × (r .count < 65536))
-  block-stays e f q = refused-as (block-refused (collectorOf h len) toc ns p first store (sym e ∙ not-true _ f)) q
+      → let block = addBlock (bare h len) toc ns p first store in
+      (addedOf r len [] ≡ block .answer) × ((store ≡ block .store) × (r .count < 65536))
+  block-stays e f q = refused-as (block-refused (bare h len) toc ns p first store (sym e ∙ not-true _ f)) q
 
   -- with the places that the code found
   pub block-as : Joins h len toc ns → (at n : ℕ) (r : AddedHead) (all left : List ℕ)
-      → at ≡ total (heldLengths (collectorOf h len)) → n ≡ total ns
+      → at ≡ total (heldLengths (bare h len)) → n ≡ total ns
       → r ≡ moreFrames h toc (length ns) → all ≡ sets len (h .«nb_frames») ns → left ≡ copied store at p first n
-      → let block = addBlock (collectorOf h len) toc ns p first store in
-      (addedOf r all ≡ block .answer) × ((left ≡ block .store) × (r .count < 65536))
+      → let block = addBlock (bare h len) toc ns p first store in
+      (addedOf r all [] ≡ block .answer) × ((left ≡ block .store) × (r .count < 65536))
   block-as j at n r all left a b w l c =
-      rw (block-added (collectorOf h len) toc ns p first store (j .goes), ← a, ← b, w, l) (refl, (c, omega (arith, j .few)))
+      rw (block-added (bare h len) toc ns p first store (j .goes), ← a, ← b, w, l, sets-none) (refl, (c, omega (arith, j .few)))
 
 module _ (sd : Bool) (rp : OpusRepacketizer) (p store : List ℕ) where
   pub add-unsound : sound rp ≡ false → added sd rp p store ≡ noAdd InvalidState rp store
@@ -284,20 +288,24 @@ pub record Took (sd : Bool) (rp : OpusRepacketizer) (p : List ℕ) (toc : ℕ) (
   pub reads : read sd p ≡ accepted toc ns first end
   pub stays : staysOut rp p ≡ false
 
-pub took : (sd : Bool) (rp : OpusRepacketizer) (p : List ℕ) (room toc : ℕ) (ns : List ℕ) (first : ℕ) → adds sd rp p room ≡ takes toc ns first
+pub took-packet : (sd : Bool) (rp : OpusRepacketizer) (p : List ℕ) (toc : ℕ) (ns : List ℕ) (first : ℕ) → packetAdds sd rp p ≡ takes toc ns first
     → Took sd rp p toc ns first
-took sd rp p room toc ns first e =
-    by-test (sound rp)
-    (λ s. by-test (ltb room leastStore) (λ h. never (let q = rw (s, h) at e in cc))
-    (λ h. by-test (ltb 65535 (length p)) (λ k. never (let q = rw (s, h, k) at e in cc))
-    (λ k. by-test (staysOut rp p) (λ o. never (let q = rw (s, h, k, o) at e in cc)) (λ o. go o (read sd p) refl (rw (s, h, k, o) at e)))))
-    (λ s. never (let q = rw s at e in cc))
+took-packet sd rp p toc ns first e =
+    by-test (ltb 65535 (length p)) (λ k. never (let q = rw k at e in cc))
+    (λ k. by-test (staysOut rp p) (λ o. never (let q = rw (k, o) at e in cc)) (λ o. go o (read sd p) refl (rw (k, o) at e)))
   where
     go : staysOut rp p ≡ false → (x : Reading) → read sd p ≡ x → readAdds x ≡ takes toc ns first → Took sd rp p toc ns first
     go o (refused rule place) q e = never (cc)
     go o (accepted toc′ ns′ first′ end) q e =
         let same : accepted toc′ ns′ first′ end ≡ accepted toc ns first end = cc in
         record { end = end; reads = q ∙ same; stays = o }
+
+pub took : (sd : Bool) (rp : OpusRepacketizer) (p : List ℕ) (room toc : ℕ) (ns : List ℕ) (first : ℕ) → adds sd rp p room ≡ takes toc ns first
+    → Took sd rp p toc ns first
+took sd rp p room toc ns first e =
+    by-test (sound rp)
+    (λ s. by-test (ltb room leastStore) (λ h. never (let q = rw (s, h) at e in cc)) (λ h. took-packet sd rp p toc ns first (rw (s, h) at e)))
+    (λ s. never (let q = rw s at e in cc))
 
 pub took-goes : {sd : Bool} {rp : OpusRepacketizer} {p : List ℕ} {toc : ℕ} {ns : List ℕ} {first : ℕ} → Bytes p → Took sd rp p toc ns first
     → goesWith rp toc (length ns) ≡ true

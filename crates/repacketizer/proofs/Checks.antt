@@ -1,16 +1,17 @@
--- A collector as one pass over its lengths finds it.
---     headed                               a collector is its head and its lengths
+-- A collector as one pass over its lengths and numbers finds it.
+--     headed                               a collector is its head, its lengths and its numbers
 --     checked-sound, checked-total         what was found
---     none-checked, check-..               its tests as the code goes through them
+--     held-.., none-checked, check-..      its tests as the code goes through them
 -- Assumes nothing.
-use Prim.Native.Nat.{ℕ, _*_, _≤_, _<_}
+use Prim.Native.Nat.{ℕ, _*_, _%_, _≤_, _<_}
 use native.Mathlib.Omega.{arith}
 use mathlib.Core.Path.{_≡_, sym, _∙_}
 use mathlib.Core.Bool.{true, false}
 use lib.Dec.{leb}
 use lib.ListN.{length, take}
-use lib.Seq.{length-take-le}
-use borrow.Author.Tests.{le-leb, lt-leb}
+use mathlib.Core.List.{List}
+use borrow.Author.Tests.{leb-true, le-leb, lt-leb}
+use Rattle.laws.proofs.Every.{both-left}
 use Rattle.opus_size.specs.Size.{mostBytes}
 use Rattle.opus_toc.specs.Toc.{configuration, samples}
 use Rattle.opus_format.specs.Frames.{total, longest}
@@ -18,13 +19,12 @@ use Rattle.opus_format.proofs.Counts.{lasts-few}
 use Rattle.repacketizer.specs.declared.OpusRepacketizer.{OpusRepacketizer}
 use Rattle.repacketizer.specs.declared.Head.{Head}
 use Rattle.repacketizer.specs.declared.Checked.{Checked}
-use Rattle.repacketizer.specs.declared.Measured.{Measured}
-use Rattle.repacketizer.specs.Collector.{heldLengths, sound}
-use Rattle.repacketizer.specs.Parts.{measured, headOf, collectorOf, checked}
+use Rattle.repacketizer.specs.Collector.{heldLengths, numbered, sound}
+use Rattle.repacketizer.specs.Parts.{headOf, collectorOf, unsoundly, keptWell, checkedHeld, checked}
 use Rattle.repacketizer.proofs.Counts.{sum-small}
 use Rattle.repacketizer.proofs.Sound.{timed-lasts, none-sound, wrong-size, wrong-time, right-time}
 
-pub headed : (rp : OpusRepacketizer) (h : Head) → h ≡ headOf rp → collectorOf h (rp .len) ≡ rp
+pub headed : (rp : OpusRepacketizer) (h : Head) → h ≡ headOf rp → collectorOf h (rp .len) (rp .packet) ≡ rp
 headed rp h e = rw e
 
 -- ---- what was found
@@ -37,44 +37,41 @@ module _ (rp : OpusRepacketizer) (c : Checked) (e : c ≡ checked rp) where
   unfolding checked
   checked-total s = rw (e, s)
 
+-- ---- the lengths and numbers of frames
+module _ (ns ks : List ℕ) (wrong : ℕ) (w : leb wrong 1 ≡ keptWell ns ks) where
+  pub held-wrong : 1 < wrong → unsoundly ≡ checkedHeld ns ks
+  held-wrong h = rw (sym w ∙ lt-leb wrong 1 h)
+
+  pub held-right : wrong ≤ 1 → length ns ≤ 48 → {sum k : ℕ} → sum ≡ total ns % 65536 → k ≡ sum → record { sound = true; total = k } ≡ checkedHeld ns ks
+  held-right h few s q =
+      let well : keptWell ns ks ≡ true = sym w ∙ le-leb wrong 1 h in
+      let small = leb-true (longest ns) mostBytes (both-left (leb (longest ns) mostBytes) (numbered ks) well) in
+      rw (well, q ∙ (s ∙ sum-small ns few small))
+
 -- ---- as the code goes through it
 module _ (rp : OpusRepacketizer) where
-  unsound : sound rp ≡ false → record { sound = false; total = 0 } ≡ checked rp
+  unsound : sound rp ≡ false → unsoundly ≡ checked rp
   unfolding checked
   unsound s = rw s
 
-  is-sound : sound rp ≡ true → {n : ℕ} → n ≡ total (heldLengths rp) → record { sound = true; total = n } ≡ checked rp
-  unfolding checked
-  is-sound s t = rw (s, t)
-
   pub none-checked : rp .«nb_frames» ≡ 0 → record { sound = true; total = 0 } ≡ checked rp
-  none-checked z = is-sound (none-sound rp z) (rw z)
+  unfolding checked
+  none-checked z = rw (none-sound rp z, z)
 
   -- one that is not empty, with `each` for the frame size
   module _ (z : rp .«nb_frames» ≡ 0 → ⊥) (each : ℕ) (e : each ≡ samples 8000 (configuration (rp .toc))) where
-    pub check-size : (rp .framesize .0 ≡ each → ⊥) → record { sound = false; total = 0 } ≡ checked rp
-    check-size w = unsound (sym (wrong-size rp z each e w))
+    pub check-size : (rp .framesize .0 ≡ each → ⊥) → unsoundly ≡ checked rp
+    check-size w = unsound (wrong-size rp z each e w)
 
     module _ (f : rp .framesize .0 ≡ each) where
-      pub check-time : leb (rp .«nb_frames» * each) 960 ≡ false → record { sound = false; total = 0 } ≡ checked rp
-      check-time w = unsound (sym (wrong-time rp z each e f w))
+      pub check-time : leb (rp .«nb_frames» * each) 960 ≡ false → unsoundly ≡ checked rp
+      check-time w = unsound (wrong-time rp z each e f w)
 
-      module _ (b : rp .toc < 256) (l : length (rp .len) ≡ 48) (t : leb (rp .«nb_frames» * each) 960 ≡ true) where
-        -- the time shows that the count is within the array
-        pub check-few : rp .«nb_frames» ≤ 48
-        check-few = lasts-few (timed-lasts b (omega arith) (record { size = e; time = t }))
+      module _ (t : leb (rp .«nb_frames» * each) 960 ≡ true) where
+        -- the time shows that the count is within the arrays
+        pub check-few : rp .toc < 256 → rp .«nb_frames» ≤ 48
+        check-few b = lasts-few (timed-lasts b (omega arith) (record { size = e; time = t }))
 
-        module _ (n : ℕ) (m : Measured) (a : n ≡ rp .«nb_frames») (p : m ≡ measured (take n (rp .len))) where
-          by-longest : leb (m .longest) mostBytes ≡ sound rp
-          by-longest = rw (p, a) (right-time rp z each e f t)
-
-          pub check-long : mostBytes < m .longest → record { sound = false; total = 0 } ≡ checked rp
-          check-long w = unsound (sym by-longest ∙ lt-leb (m .longest) mostBytes w)
-
-          pub check-total : m .longest ≤ mostBytes → {k : ℕ} → k ≡ m .total → record { sound = true; total = k } ≡ checked rp
-          check-total w {k} q =
-              let small : longest (heldLengths rp) ≤ mostBytes = rw (p, a) at w in
-              let size = length-take-le (rp .«nb_frames») (rp .len) (omega (arith, check-few)) in
-              let whole = sum-small (heldLengths rp) (omega (arith, size, check-few)) small in
-              let sum : m .total ≡ total (heldLengths rp) = rw (p, a) whole in
-              is-sound (sym by-longest ∙ le-leb (m .longest) mostBytes w) (q ∙ sum)
+        pub check-held : {n : ℕ} {c : Checked} → n ≡ rp .«nb_frames» → c ≡ checkedHeld (take n (rp .len)) (take n (rp .packet)) → c ≡ checked rp
+        unfolding checked
+        check-held a q = q ∙ rw (a, right-time rp z each e f t)

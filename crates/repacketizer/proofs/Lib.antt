@@ -1,12 +1,14 @@
 pub mod Counts
 pub mod Lengths
 pub mod Sound
+pub mod Numbering
 pub mod Held
 pub mod Checks
 pub mod Parsed
 pub mod Adds
 pub mod Kept
 pub mod StrictAdds
+pub mod Dressed
 pub mod Steps
 pub mod Runs
 pub mod Naming

@@ -12,7 +12,7 @@ use Rattle.repacketizer.proofs.Sound.{none-sound}
 use Rattle.repacketizer.proofs.Steps.{add-ready, add-held, add-bytes, add-six}
 
 pub empty-ready : (s : State) → Empty s → Ready s
-empty-ready s e = record { byte = e .byte; lengths48 = e .lengths48; soundly = none-sound (s .rp) (e .none); roomy = e .roomy }
+empty-ready s e = record { byte = e .byte; lengths48 = e .lengths48; numbers48 = e .numbers48; soundly = none-sound (s .rp) (e .none); roomy = e .roomy }
 
 pub empty-held : (s : State) → Empty s → held (s .rp) (s .store) ≡ []
 empty-held s e = rw (e .none)

@@ -1,12 +1,14 @@
--- When a collector is sound.
---     Timed, timed-lasts, lasts-timed              120 ms counted in samples at 8 kHz
---     none-sound, Full, sound-full, full-sound     an empty collector, and one that is not empty
---     wrong-size, wrong-time, right-time           its tests as the code goes through them
---     unsound-number, sound-number                 the number of frames held
+-- When a collector is sound: `framed`, and its numbers too.
+--     Timed, timed-lasts, lasts-timed                  120 ms counted in samples at 8 kHz
+--     none-framed, Full, framed-full, full-framed      an empty collector, and one that is not empty
+--     sound-framed, .., sound-bare                     frames and numbers
+--     wrong-size, wrong-time, right-time               its tests as the code goes through them
+--     unsound-number, sound-number                     the number of frames held
 -- Assumes nothing.
 use Prim.Native.Nat.{ℕ, _*_, _≤_, _<_}
 use native.Mathlib.Omega.{arith}
 use mathlib.Core.Path.{_≡_, refl, sym, _∙_}
+use mathlib.Core.List.{List}
 use mathlib.Core.Bool.{Bool, true, false, _&&_}
 use lib.Dec.{leb, eqb}
 use borrow.Author.Tests.{eqb-true, leb-true, le-leb, eq-eqb, ne-eqb}
@@ -20,7 +22,9 @@ use Rattle.opus_toc.proofs.Samples.{lasts-at}
 use Rattle.opus_format.specs.Frames.{longest}
 use Rattle.opus_format.specs.Format.{Lasts}
 use Rattle.repacketizer.specs.declared.OpusRepacketizer.{OpusRepacketizer}
-use Rattle.repacketizer.specs.Collector.{heldLengths, sound, nbFramesHeld}
+use Rattle.repacketizer.specs.declared.Head.{Head}
+use Rattle.repacketizer.specs.Collector.{heldLengths, heldNumbers, framed, numbered, sound, nbFramesHeld}
+use Rattle.repacketizer.specs.Parts.{collectorOf, bare, keptWell}
 
 -- `each` is the frame size of this TOC byte at 8 kHz, and so many frames last at most 120 ms
 pub record Timed (toc count each : ℕ) : Type 0 where
@@ -41,18 +45,18 @@ lasts-timed {toc} {count} {each} b e l =
     record { size = e; time = time-is toc count each b e ∙ le-leb (count * duration (configuration toc)) 1200 (l .short) }
 
 -- ---- an empty collector
-pub none-sound : (rp : OpusRepacketizer) → rp .«nb_frames» ≡ 0 → sound rp ≡ true
-unfolding sound
-none-sound rp e = rw (eq-eqb (rp .«nb_frames») 0 e)
+pub none-framed : (rp : OpusRepacketizer) → rp .«nb_frames» ≡ 0 → framed rp ≡ true
+unfolding framed
+none-framed rp e = rw (eq-eqb (rp .«nb_frames») 0 e)
 
 -- ---- one that is not empty
 pub record Full (rp : OpusRepacketizer) : Type 0 where
   pub timed : Timed (rp .toc) (rp .«nb_frames») (rp .framesize .0)
   pub small : longest (heldLengths rp) ≤ mostBytes
 
-pub full-sound : (rp : OpusRepacketizer) → Full rp → sound rp ≡ true
-unfolding sound
-full-sound rp f =
+pub full-framed : (rp : OpusRepacketizer) → Full rp → framed rp ≡ true
+unfolding framed
+full-framed rp f =
     let s = eq-eqb (rp .framesize .0) (samples 8000 (configuration (rp .toc))) (f .timed .size) in
     by-test (eqb (rp .«nb_frames») 0) (λ e. rw e) (λ e. rw (e, s, f .timed .time, le-leb (longest (heldLengths rp)) mostBytes (f .small)))
 
@@ -66,13 +70,13 @@ module _ (rp : OpusRepacketizer) (z : rp .«nb_frames» ≡ 0 → ⊥) where
   abbrev small : Bool
   small = leb (longest (heldLengths rp)) mostBytes
 
-  sound-is : sound rp ≡ size && (time && small)
-  unfolding sound
-  sound-is = rw (ne-eqb (rp .«nb_frames») 0 z)
+  framed-is : framed rp ≡ size && (time && small)
+  unfolding framed
+  framed-is = rw (ne-eqb (rp .«nb_frames») 0 z)
 
-  pub sound-full : sound rp ≡ true → Full rp
-  sound-full s =
-      let all = sym sound-is ∙ s in
+  pub framed-full : framed rp ≡ true → Full rp
+  framed-full s =
+      let all = sym framed-is ∙ s in
       let rest = both-right size (time && small) all in
       record {
         timed = record {
@@ -82,17 +86,46 @@ module _ (rp : OpusRepacketizer) (z : rp .«nb_frames» ≡ 0 → ⊥) where
         small = leb-true (longest (heldLengths rp)) mostBytes (both-right time small rest);
       }
 
-  -- the code's tests, with `each` for the frame size
-  module _ (each : ℕ) (e : each ≡ samples 8000 (configuration (rp .toc))) where
-    pub wrong-size : (rp .framesize .0 ≡ each → ⊥) → false ≡ sound rp
-    wrong-size w = rw (sound-is, ← e, ne-eqb (rp .framesize .0) each w)
+-- ---- frames and numbers
+module _ (rp : OpusRepacketizer) where
+  pub sound-framed : sound rp ≡ true → framed rp ≡ true
+  unfolding sound
+  sound-framed s = both-left (framed rp) (numbered (heldNumbers rp)) s
+
+  pub sound-numbered : sound rp ≡ true → numbered (heldNumbers rp) ≡ true
+  unfolding sound
+  sound-numbered s = both-right (framed rp) (numbered (heldNumbers rp)) s
+
+  pub both-sound : framed rp ≡ true → numbered (heldNumbers rp) ≡ true → sound rp ≡ true
+  unfolding sound
+  both-sound f n = rw (f, n)
+
+  pub none-sound : rp .«nb_frames» ≡ 0 → sound rp ≡ true
+  unfolding numbered
+  none-sound e = both-sound (none-framed rp e) (rw e)
+
+  -- the code's tests of one that is not empty, with `each` for the frame size
+  module _ (z : rp .«nb_frames» ≡ 0 → ⊥) (each : ℕ) (e : each ≡ samples 8000 (configuration (rp .toc))) where
+    pub wrong-size : (rp .framesize .0 ≡ each → ⊥) → sound rp ≡ false
+    unfolding sound
+    wrong-size w = rw (framed-is rp z, ← e, ne-eqb (rp .framesize .0) each w)
 
     module _ (f : rp .framesize .0 ≡ each) where
-      pub wrong-time : leb (rp .«nb_frames» * each) 960 ≡ false → false ≡ sound rp
-      wrong-time w = rw (sound-is, ← e, f, eq-eqb each each refl, w)
+      pub wrong-time : leb (rp .«nb_frames» * each) 960 ≡ false → sound rp ≡ false
+      unfolding sound
+      wrong-time w = rw (framed-is rp z, ← e, f, eq-eqb each each refl, w)
 
-      pub right-time : leb (rp .«nb_frames» * each) 960 ≡ true → leb (longest (heldLengths rp)) mostBytes ≡ sound rp
-      right-time t = rw (sound-is, ← e, f, eq-eqb each each refl, t)
+      pub right-time : leb (rp .«nb_frames» * each) 960 ≡ true → keptWell (heldLengths rp) (heldNumbers rp) ≡ sound rp
+      unfolding sound
+      right-time t = rw (framed-is rp z, ← e, f, eq-eqb each each refl, t)
+
+-- the numbers are no part of the frames
+pub framed-bare : (h : Head) (len packet : List ℕ) → framed (collectorOf h len packet) ≡ framed (bare h len)
+unfolding framed
+framed-bare h len packet = refl
+
+pub sound-bare : (h : Head) (len packet : List ℕ) → sound (collectorOf h len packet) ≡ true → framed (bare h len) ≡ true
+sound-bare h len packet s = sym (framed-bare h len packet) ∙ sound-framed (collectorOf h len packet) s
 
 -- ---- the frames held, as a number
 module _ (rp : OpusRepacketizer) where

@@ -10,7 +10,7 @@ use mathlib.Core.Bool.{Bool, true}
 use Prim.Native.Nat.{ℕ, _+_, _*_, _≤_, _<_}
 use native.Mathlib.Omega.{arith}
 use lib.Dec.{leb, eqb}
-use lib.ListN.{length, getD, drop}
+use lib.ListN.{length, getD, drop, replicate}
 use lib.Seq.{length-sets}
 use Rattle.laws.specs.Bytes.{Bytes}
 use borrow.Author.Tests.{eqb-true, eqb-false, ne-eqb}
@@ -25,13 +25,14 @@ use Rattle.opus_toc.specs.Toc.{upperSix}
 use Rattle.opus_format.proofs.Sound.{read-spelled}
 use Rattle.opus_format.proofs.Facts.{Facts, facts}
 use Rattle.blocks.specs.Blocks.{part}
-use Rattle.repacketizer.specs.Collector.{held, heldLengths}
-use Rattle.repacketizer.specs.Adding.{Adding, goesWith, withFrames, Addition, refusal, takes, leavesAdd, addsBy}
+use Rattle.repacketizer.specs.Collector.{held, heldLengths, heldNumbers, framed}
+use Rattle.repacketizer.specs.Adding.{Adding, goesWith, numberAfter, withFrames, Addition, refusal, takes, leavesAdd, addsBy}
 use Rattle.repacketizer.specs.declared.OpusRepacketizer.{OpusRepacketizer}
 use Rattle.repacketizer.specs.Runs.{State, Ready, Arrival, adding, afterAdd, framesIf, framesAdded}
 use Rattle.opus_format.proofs.Lengths.{longest-append}
 use Rattle.repacketizer.proofs.Lengths.{take-sets-at, cut-copied}
-use Rattle.repacketizer.proofs.Sound.{full-sound}
+use Rattle.repacketizer.proofs.Sound.{full-framed, sound-framed, sound-numbered, both-sound}
+use Rattle.repacketizer.proofs.Numbering.{put-numbers, numbered-grown}
 use Rattle.repacketizer.proofs.Held.{Holding, holding}
 use Rattle.repacketizer.proofs.Adds.{with-few, with-timed, with-room, taken, took-goes}
 use Rattle.repacketizer.proofs.StrictAdds.{by-adds, took-by}
@@ -46,30 +47,44 @@ module _ (sd : Bool) (s : State) (p : List ℕ) (r : Ready s) (b : Bytes p) (toc
   read-facts : Facts (length p) toc ns first end
   read-facts = facts sd p toc ns first end b q
 
+  framely : framed (s .rp) ≡ true
+  framely = sound-framed (s .rp) (r .soundly)
+
   before : Holding (s .rp)
-  before = holding (s .rp) (r .byte) (r .lengths48) (r .soundly)
+  before = holding (s .rp) (r .byte) (r .lengths48) framely
 
   few : s .rp .«nb_frames» + length ns ≤ 48
-  few = with-few (s .rp) toc ns (r .soundly) g (r .byte) (read-facts .few)
+  few = with-few (s .rp) toc ns framely g (r .byte) (read-facts .few)
 
   -- the lengths held are those of before and the new ones
   grown : heldLengths (withFrames (s .rp) toc ns) ≡ heldLengths (s .rp) ++ ns
   grown = take-sets-at (s .rp .len) (s .rp .«nb_frames») ns (omega (arith, few, r .lengths48))
 
+  -- and their numbers those of before and the next one for each
+  renumbered : heldNumbers (withFrames (s .rp) toc ns)
+      ≡ heldNumbers (s .rp) ++ replicate (length ns) (numberAfter (s .rp .packet) (s .rp .«nb_frames»))
+  renumbered = put-numbers (s .rp .packet) (s .rp .«nb_frames») (length ns) _ (omega (arith, few, r .numbers48))
+
   small : longest (heldLengths (withFrames (s .rp) toc ns)) ≤ mostBytes
   small = rw grown (omega (arith, longest-append (heldLengths (s .rp)) ns, before .small, read-facts .small))
 
   room : total (heldLengths (s .rp)) + total ns ≤ length (s .store)
-  room = omega (arith, with-room (s .rp) toc ns (r .soundly) g (r .byte) (r .lengths48) (read-facts .few) (read-facts .small), r .roomy)
+  room = omega (arith, with-room (s .rp) toc ns framely g (r .byte) (r .lengths48) (read-facts .few) (read-facts .small), r .roomy)
 
   taken-ready : Ready (stateOf (taken (s .rp) toc ns p first (s .store)))
   taken-ready =
       record {
         byte = cond-elim (λ (n : ℕ). n < 256) (eqb (s .rp .«nb_frames») 0) toc (s .rp .toc) (λ e. read-facts .byte) (λ e. r .byte);
         lengths48 = length-sets (s .rp .len) (s .rp .«nb_frames») ns ∙ r .lengths48;
+        numbers48 =
+            length-sets (s .rp .packet) (s .rp .«nb_frames») (replicate (length ns) (numberAfter (s .rp .packet) (s .rp .«nb_frames»)))
+            ∙ r .numbers48;
         soundly =
-            full-sound (withFrames (s .rp) toc ns)
-            (record { timed = with-timed (s .rp) toc ns (r .soundly) g (read-facts .byte) (read-facts .lasts); small = small });
+            both-sound (withFrames (s .rp) toc ns)
+            (full-framed (withFrames (s .rp) toc ns)
+            (record { timed = with-timed (s .rp) toc ns framely g (read-facts .byte) (read-facts .lasts); small = small }))
+            (rw renumbered (numbered-grown (s .rp .packet) (s .rp .«nb_frames») (length ns) (omega (arith, few, r .numbers48))
+            (sound-numbered (s .rp) (r .soundly))));
         roomy = omega (arith, length-sets (s .store) (total (heldLengths (s .rp))) (part p first (total ns)), r .roomy);
       }
 

@@ -1,19 +1,19 @@
 -- Strict adds (document 02, M-105).
 --     by-adds                  what an add of either kind leaves, by what it takes
---     took-by                  one that takes frames has read them, and they go with those held
+--     took-by, took-packet-by  one that takes frames has read them, and they go with those held
 --     strict-clean, by-clean   where padding is clean, the strict add is the ordinary one
 --     dirty-read               a packet whose padding is dirty can be read
 --     has-.., why-..           the tests of the code
---     strict-as                a refusal as the code hands it back
 --     never-dirty              an ordinary add never answers -20
---     strict-dirty             where it is dirty, nothing is added, and the refusal is what the ordinary add asks first
+--     by-sound, ..             an add of either kind by the collector and the store
+--     strict-dirty, dirty-as   where padding is dirty, nothing is added, and the refusal is what the ordinary add asks first
 --     strict-same              the same by the test of the code, which leaves a packet of over 65,535 bytes to the ordinary add
 -- Assumes nothing.
 use Prim.Native.Nat.{ℕ, _≤_, _<_}
 use native.Mathlib.Omega.{arith}
-use mathlib.Core.Path.{_≡_, refl}
-use mathlib.Core.List.{List}
-use mathlib.Core.Bool.{Bool, true, false, cond}
+use mathlib.Core.Path.{_≡_, refl, _∙_}
+use mathlib.Core.List.{List, []}
+use mathlib.Core.Bool.{Bool, true, false, cond, _&&_}
 use lib.Dec.{ltb, leb}
 use lib.IntN.{negsuc}
 use lib.ListN.{length}
@@ -27,12 +27,12 @@ use Rattle.opus_defines.proofs.Outcomes.{rule-number}
 use Rattle.opus_format.specs.Dirt.{paddingOf, dirty, dirtyPacket}
 use Rattle.opus_format.specs.Reading.{Reading, refused, accepted, read}
 use Rattle.repacketizer.specs.declared.OpusRepacketizer.{OpusRepacketizer}
+use Rattle.repacketizer.specs.declared.Head.{Head}
 use Rattle.repacketizer.specs.Collector.{leastStore, sound}
-use Rattle.repacketizer.specs.Adding.{Adding, noAdd, staysOut, Addition, refusal, takes, leavesAdd, readAdds, unlessDirty, adds, addsBy, added}
-use Rattle.repacketizer.specs.Adding.{addedStrictly, addedNumber}
-use Rattle.repacketizer.specs.Parts.{hasDirt, whyDirty}
-use Rattle.repacketizer.specs.Runs.{addedBy}
-use Rattle.repacketizer.proofs.Adds.{Took, took}
+use Rattle.repacketizer.specs.Adding.{noAdd, staysOut, Addition, refusal, takes, leavesAdd, readAdds, unlessDirty, adds, addsBy, addPacket, added}
+use Rattle.repacketizer.specs.Adding.{packetAdds, addedStrictly, addedBy, addedNumber}
+use Rattle.repacketizer.specs.Parts.{bare, hasDirt, whyDirty, packetAddsBy, addPacketBy}
+use Rattle.repacketizer.proofs.Adds.{Took, took, took-packet, stays-lengths}
 
 pub by-adds : (strict sd : Bool) (rp : OpusRepacketizer) (p store : List ℕ)
     → addedBy strict sd rp p store ≡ leavesAdd rp p store (addsBy strict sd rp p (length store))
@@ -51,6 +51,11 @@ pub took-by : (strict sd : Bool) (rp : OpusRepacketizer) (p : List ℕ) (room to
 took-by false sd rp p room toc ns first e = took sd rp p room toc ns first e
 took-by true sd rp p room toc ns first e = took sd rp p room toc ns first (unless-takes (dirtyPacket sd p) (adds sd rp p room) e)
 
+pub took-packet-by : (strict sd : Bool) (rp : OpusRepacketizer) (p : List ℕ) (toc : ℕ) (ns : List ℕ) (first : ℕ)
+    → packetAddsBy strict sd rp p ≡ takes toc ns first → Took sd rp p toc ns first
+took-packet-by false sd rp p toc ns first e = took-packet sd rp p toc ns first e
+took-packet-by true sd rp p toc ns first e = took-packet sd rp p toc ns first (unless-takes (dirtyPacket sd p) (packetAdds sd rp p) e)
+
 -- ---- clean padding
 unless-clean : (x : Addition) → unlessDirty false x ≡ x
 unless-clean (refusal e) = refl
@@ -65,18 +70,38 @@ module _ (sd : Bool) (rp : OpusRepacketizer) (p store : List ℕ) where
   by-clean false c = refl
   by-clean true c = strict-clean c
 
-  -- a packet that is too long is refused before it is looked at
-  strict-long : 65535 < length p → addedStrictly sd rp p store ≡ added sd rp p store
-  unfolding added addedStrictly
-  strict-long h =
-      by-test (sound rp)
-      (λ s. by-test (ltb (length store) leastStore) (λ t. rw (s, t)) (λ t. rw (s, t, lt-ltb 65535 (length p) h)))
-      (λ s. rw s)
+  -- the same on a sound collector, by the test of the code; a packet that is too long is refused before it is looked at
+  strict-long : 65535 < length p → addPacketBy true sd rp p store ≡ addPacketBy false sd rp p store
+  unfolding addPacketBy
+  strict-long h = rw (lt-ltb 65535 (length p) h)
 
-  pub strict-same : hasDirt sd p ≡ false → addedStrictly sd rp p store ≡ added sd rp p store
+  pub strict-same : hasDirt sd p ≡ false → addPacketBy true sd rp p store ≡ addPacketBy false sd rp p store
+  unfolding addPacketBy
   strict-same n =
       by-test (ltb 65535 (length p)) (λ t. strict-long (ltb-true 65535 (length p) t))
-      (λ t. strict-clean (rw (le-leb (length p) 65535 (ltb-false 65535 (length p) t)) at n))
+      (λ t. let c = rw (le-leb (length p) 65535 (ltb-false 65535 (length p) t)) at n in rw (c, unless-clean (packetAdds sd rp p)))
+
+-- ---- an add of either kind to a sound collector with a store that is long enough
+pub by-sound : (strict sd : Bool) (rp : OpusRepacketizer) (p store : List ℕ) → sound rp ≡ true → leastStore ≤ length store
+    → addedBy strict sd rp p store ≡ addPacketBy strict sd rp p store
+unfolding added addedStrictly addPacketBy
+by-sound false sd rp p store s h = rw (s, le-ltb (length store) leastStore h)
+by-sound true sd rp p store s h = rw (s, le-ltb (length store) leastStore h)
+
+pub by-unsound : (strict sd : Bool) (rp : OpusRepacketizer) (p store : List ℕ) → sound rp ≡ false → addedBy strict sd rp p store ≡ noAdd InvalidState rp store
+unfolding added addedStrictly
+by-unsound false sd rp p store s = rw s
+by-unsound true sd rp p store s = rw s
+
+pub by-tight : (strict sd : Bool) (rp : OpusRepacketizer) (p store : List ℕ) → sound rp ≡ true → length store < leastStore
+    → addedBy strict sd rp p store ≡ noAdd BadArg rp store
+unfolding added addedStrictly
+by-tight false sd rp p store s h = rw (s, lt-ltb (length store) leastStore h)
+by-tight true sd rp p store s h = rw (s, lt-ltb (length store) leastStore h)
+
+pub by-ordinary : (sd : Bool) (rp : OpusRepacketizer) (p store : List ℕ) → addPacketBy false sd rp p store ≡ addPacket sd rp p store
+unfolding addPacketBy addPacket
+by-ordinary sd rp p store = refl
 
 -- ---- dirty padding
 -- such a packet can be read
@@ -97,16 +122,13 @@ module _ (sd : Bool) (rp : OpusRepacketizer) (p store : List ℕ) (d : hasDirt s
   pub dirt-dirty : dirtyPacket sd p ≡ true
   dirt-dirty = both-right (leb (length p) 65535) (dirtyPacket sd p) d
 
-  pub strict-dirty : addedStrictly sd rp p store ≡ noAdd (whyDirty rp p (length store)) rp store
-  unfolding addedStrictly
+  pub strict-dirty : addPacketBy true sd rp p store ≡ noAdd (whyDirty rp p) rp store
+  unfolding addPacketBy
   strict-dirty =
       let r = dirty-read sd p dirt-dirty in
       let q = r .4 in
       let k = le-ltb 65535 (length p) dirt-short in
-      by-test (sound rp)
-      (λ s. by-test (ltb (length store) leastStore) (λ t. rw (dirt-dirty, s, t))
-      (λ t. by-test (staysOut rp p) (λ o. rw (dirt-dirty, s, t, k, o)) (λ o. rw (dirt-dirty, s, t, k, o, q))))
-      (λ s. rw (dirt-dirty, s))
+      by-test (staysOut rp p) (λ o. rw (dirt-dirty, k, o)) (λ o. rw (dirt-dirty, k, o, q))
 
 -- ---- an ordinary add does not ask
 pub never-dirty : (sd : Bool) (rp : OpusRepacketizer) (p store : List ℕ) → addedNumber (added sd rp p store .answer) ≡ negsuc 19 → ⊥
@@ -130,22 +152,31 @@ module _ (sd : Bool) (p : List ℕ) where
   pub has-short : length p ≤ 65535 → {b : Bool} → b ≡ dirtyPacket sd p → b ≡ hasDirt sd p
   has-short h e = rw (le-leb (length p) 65535 h) e
 
-module _ (rp : OpusRepacketizer) (p : List ℕ) (bytes : ℕ) where
-  pub why-unsound : sound rp ≡ false → InvalidState ≡ whyDirty rp p bytes
-  why-unsound s = rw s
+-- whatever the lengths held
+module _ (h : Head) (len p : List ℕ) where
+  pub why-out : staysOut (bare h []) p ≡ true → InvalidPacket ≡ whyDirty (bare h []) p
+  why-out o = rw o
 
-  module _ (s : sound rp ≡ true) where
-    pub why-tight : bytes < leastStore → BadArg ≡ whyDirty rp p bytes
-    why-tight h = rw (s, lt-ltb bytes leastStore h)
+  pub why-dirt : staysOut (bare h []) p ≡ false → DirtyPadding ≡ whyDirty (bare h []) p
+  why-dirt o = rw o
 
-    module _ (h : leastStore ≤ bytes) where
-      pub why-out : staysOut rp p ≡ true → InvalidPacket ≡ whyDirty rp p bytes
-      why-out o = rw (s, le-ltb bytes leastStore h, o)
+  pub dirty-as : (sd : Bool) (store : List ℕ) → hasDirt sd p ≡ true → {x : Refusal} → x ≡ whyDirty (bare h []) p
+      → addPacketBy true sd (bare h len) p store ≡ noAdd x (bare h len) store
+  dirty-as sd store d q = strict-dirty sd (bare h len) p store d ∙ rw (q, stays-lengths h len [] [] [] p)
 
-      pub why-dirt : staysOut rp p ≡ false → DirtyPadding ≡ whyDirty rp p bytes
-      why-dirt o = rw (s, le-ltb bytes leastStore h, o)
+-- an add of either kind, by what the code asks
+pub asks-ordinary : (strict : Bool) (sd : Bool) (p : List ℕ) → strict ≡ false → false ≡ strict && hasDirt sd p
+asks-ordinary strict sd p e = rw e
 
--- a refusal as the code hands it back
-pub strict-as : {a : Adding} {e x : Refusal} {rp : OpusRepacketizer} {store : List ℕ} → a ≡ noAdd e rp store → x ≡ e
-    → (record { verdict = Refused x; rp = rp } ≡ a .answer) × (store ≡ a .store)
-strict-as p q = rw (p, q) (refl, refl)
+pub asks-strict : (strict : Bool) (sd : Bool) (p : List ℕ) → strict ≡ true → {b : Bool} → b ≡ hasDirt sd p → b ≡ strict && hasDirt sd p
+asks-strict strict sd p e q = rw e q
+
+pub by-dirt : (strict sd : Bool) (h : Head) (len p store : List ℕ) → strict && hasDirt sd p ≡ true → {x : Refusal} → x ≡ whyDirty (bare h []) p
+    → addPacketBy strict sd (bare h len) p store ≡ noAdd x (bare h len) store
+by-dirt false sd h len p store d q = never (cc)
+by-dirt true sd h len p store d q = dirty-as h len p sd store d q
+
+pub by-no-dirt : (strict sd : Bool) (rp : OpusRepacketizer) (p store : List ℕ) → strict && hasDirt sd p ≡ false
+    → addPacketBy strict sd rp p store ≡ addPacket sd rp p store
+by-no-dirt false sd rp p store d = by-ordinary sd rp p store
+by-no-dirt true sd rp p store d = strict-same sd rp p store d ∙ by-ordinary sd rp p store

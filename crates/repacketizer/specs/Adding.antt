@@ -1,10 +1,11 @@
--- What an add answers, and what it leaves in the store (document 01, 'Collecting and writing'; the order of refusals under 'Return numbers').
-use Prim.Native.Nat.{ℕ, _+_, _*_}
+-- What an add answers, and what it leaves in the store (document 01, 'Collecting and writing'; the order of refusals under 'Return numbers';
+-- document 02, M-105 and M-107).
+use Prim.Native.Nat.{ℕ, _+_, _*_, _-_}
 use mathlib.Core.List.{List, [], _∷_}
 use mathlib.Core.Bool.{Bool, true, false, cond, _&&_, _||_}
 use lib.Dec.{ltb, leb, eqb}
 use lib.IntN.{ℤ}
-use lib.ListN.{length}
+use lib.ListN.{length, getD, replicate}
 use lib.Seq.{sets}
 use Rattle.opus_defines.specs.Bounds.{mostPacket}
 use Rattle.opus_defines.specs.Numbers.{verdictReport}
@@ -51,7 +52,11 @@ goesWith rp toc n =
     eqb (rp .«nb_frames») 0
     || (eqb (upperSix toc) (upperSix (rp .toc)) && leb ((rp .«nb_frames» + n) * rp .framesize .0) 960)
 
--- the collector with frames of these lengths more; the first packet sets the TOC byte
+-- the number of the next accepted packet (document 02, M-107), behind n frames with these numbers: one more than that of the last
+abbrev pub numberAfter : List ℕ → ℕ → ℕ
+numberAfter numbers n = cond (eqb n 0) 0 (getD numbers (n - 1) 0 + 1)
+
+-- the collector with frames of these lengths more, which came in one packet; the first packet sets the TOC byte
 abbrev pub withFrames : OpusRepacketizer → ℕ → List ℕ → OpusRepacketizer
 withFrames rp toc ns =
     record {
@@ -59,6 +64,7 @@ withFrames rp toc ns =
       «nb_frames» = rp .«nb_frames» + length ns;
       framesize = cond (eqb (rp .«nb_frames») 0) (record { 0 = samples 8000 (configuration toc) }) (rp .framesize);
       len = sets (rp .len) (rp .«nb_frames») ns;
+      packet = sets (rp .packet) (rp .«nb_frames») (replicate (length ns) (numberAfter (rp .packet) (rp .«nb_frames»)));
     }
 
 -- an add refuses, or takes frames of these lengths, with this TOC byte, from a place of the packet on
@@ -123,3 +129,8 @@ addsBy true sd rp p bytes = unlessDirty (dirtyPacket sd p) (adds sd rp p bytes)
 -- `opus_repacketizer_cat_strict_impl`; `opus_repacketizer_cat_strict` is its ordinary form
 unfoldable pub addedStrictly : Bool → OpusRepacketizer → List ℕ → List ℕ → Adding
 addedStrictly sd rp p store = leavesAdd rp p store (addsBy true sd rp p (length store))
+
+-- the two calls that add, by their kind
+abbrev pub addedBy : Bool → Bool → OpusRepacketizer → List ℕ → List ℕ → Adding
+addedBy false sd rp p store = added sd rp p store
+addedBy true sd rp p store = addedStrictly sd rp p store

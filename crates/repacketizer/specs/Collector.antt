@@ -1,7 +1,7 @@
--- The collector: what it holds, and when it is sound (document 01, 'Return numbers').
-use Prim.Native.Nat.{ℕ, _*_}
-use mathlib.Core.List.{List}
-use mathlib.Core.Bool.{Bool, cond, _&&_, _||_}
+-- The collector: what it holds, and when it is sound (document 01, 'Return numbers'; document 02, M-107).
+use Prim.Native.Nat.{ℕ, _+_, _*_}
+use mathlib.Core.List.{List, [], _∷_}
+use mathlib.Core.Bool.{Bool, true, cond, _&&_, _||_}
 use lib.Dec.{leb, eqb}
 use lib.ListN.{take, replicate}
 use Rattle.opus_defines.specs.declared.Answer.{Answer}
@@ -14,7 +14,7 @@ use Rattle.repacketizer.specs.declared.OpusRepacketizer.{OpusRepacketize
 
 -- what init and reset make
 abbrev pub empty : OpusRepacketizer
-empty = record { toc = 0; «nb_frames» = 0; framesize = record { 0 = 0 }; len = replicate 48 0 }
+empty = record { toc = 0; «nb_frames» = 0; framesize = record { 0 = 0 }; len = replicate 48 0; packet = replicate 48 0 }
 
 -- the lengths of the frames held; the frames stand one behind another in the store, from its front on
 abbrev pub heldLengths : OpusRepacketizer → List ℕ
@@ -23,17 +23,35 @@ heldLengths rp = take (rp .«nb_frames») (rp .len)
 abbrev pub held : OpusRepacketizer → List ℕ → List (List ℕ)
 held rp store = cut (heldLengths rp) store
 
+-- for each frame held the number of the accepted packet that it came in, from 0 since the collector was last empty
+abbrev pub heldNumbers : OpusRepacketizer → List ℕ
+heldNumbers rp = take (rp .«nb_frames») (rp .packet)
+
 -- the least store, in bytes: 48 frames of 1275
 abbrev pub leastStore : ℕ
 leastStore = 61200
 
 -- empty, or: the frame size is the TOC's at 8 kHz, the frames last at most 120 ms, and each is at most 1275 bytes long
-unfoldable pub sound : OpusRepacketizer → Bool
-sound rp =
+unfoldable pub framed : OpusRepacketizer → Bool
+framed rp =
     eqb (rp .«nb_frames») 0
     || (eqb (rp .framesize .0) (samples 8000 (configuration (rp .toc)))
     && (leb (rp .«nb_frames» * rp .framesize .0) 960
     && leb (longest (heldLengths rp)) mostBytes))
+
+-- numbers that go on from k by 0 or 1
+abbrev pub steps : ℕ → List ℕ → Bool
+steps k [] = true
+steps k (n ∷ ns) = (eqb n k || eqb n (k + 1)) && steps n ns
+
+-- and begin at 0
+unfoldable pub numbered : List ℕ → Bool
+numbered [] = true
+numbered (n ∷ ns) = eqb n 0 && steps n ns
+
+-- what is behind the count is free, lengths and numbers
+unfoldable pub sound : OpusRepacketizer → Bool
+sound rp = framed rp && numbered (heldNumbers rp)
 
 -- `opus_repacketizer_get_nb_frames`
 unfoldable pub nbFramesHeld : OpusRepacketizer → Answer

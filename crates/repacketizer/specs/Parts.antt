@@ -1,13 +1,14 @@
--- What the inner functions answer, where a collector's lengths are lent beside the rest of it.
-use Prim.Native.Nat.{ℕ, _+_, _%_}
-use mathlib.Core.List.{List}
-use mathlib.Core.Bool.{Bool, cond, _&&_}
-use lib.Dec.{ltb, leb, eqb}
+-- What the inner functions answer, where a collector's lengths and numbers are lent beside the rest of it.
+use Prim.Native.Nat.{ℕ, _+_, _-_, _%_}
+use mathlib.Core.List.{List, []}
+use mathlib.Core.Bool.{Bool, true, false, cond, _&&_}
+use lib.Dec.{leb, eqb}
 use lib.ListN.{length}
 use Rattle.opus_defines.specs.Bounds.{mostPacket}
 use Rattle.opus_defines.specs.declared.Refusal.{Refusal}
-use Rattle.opus_defines.specs.declared.Refusal.the-variants.{BadArg, InvalidPacket, InvalidState, DirtyPadding}
+use Rattle.opus_defines.specs.declared.Refusal.the-variants.{InvalidPacket, DirtyPadding}
 use Rattle.opus_defines.specs.declared.Verdict.the-variants.{Accepted, Refused}
+use Rattle.opus_size.specs.Size.{mostBytes}
 use Rattle.opus_toc.specs.Toc.{configuration, samples}
 use Rattle.opus_format.specs.Frames.{total, longest}
 use Rattle.opus_format.specs.Dirt.{dirtyPacket}
@@ -17,20 +18,41 @@ use Rattle.repacketizer.specs.declared.Measured.{Measured}
 use Rattle.repacketizer.specs.declared.Head.{Head}
 use Rattle.repacketizer.specs.declared.Checked.{Checked}
 use Rattle.repacketizer.specs.declared.AddedHead.{AddedHead}
-use Rattle.repacketizer.specs.Collector.{heldLengths, leastStore, sound}
-use Rattle.repacketizer.specs.Adding.{Adding, goesWith, staysOut, refusal, takes, leavesAdd}
+use Rattle.repacketizer.specs.Collector.{heldLengths, numbered, sound}
+use Rattle.repacketizer.specs.Adding.{Adding, Addition, goesWith, staysOut, refusal, takes, leavesAdd, packetAdds, unlessDirty}
 
 -- one pass over lengths
 abbrev pub measured : List ℕ → Measured
 measured ns = record { longest = longest ns; total = total ns % 65536 }
 
--- a collector without its lengths
+-- a collector without its lengths and numbers
 abbrev pub headOf : OpusRepacketizer → Head
 headOf rp = record { toc = rp .toc; «nb_frames» = rp .«nb_frames»; framesize = rp .framesize }
 
--- the collector with this head and these lengths
-abbrev pub collectorOf : Head → List ℕ → OpusRepacketizer
-collectorOf h len = record { toc = h .toc; «nb_frames» = h .«nb_frames»; framesize = h .framesize; len = len }
+-- the collector with this head, these lengths and these numbers
+abbrev pub collectorOf : Head → List ℕ → List ℕ → OpusRepacketizer
+collectorOf h len packet = record { toc = h .toc; «nb_frames» = h .«nb_frames»; framesize = h .framesize; len = len; packet = packet }
+
+-- the same with the numbers left aside, where they are not looked at
+abbrev pub bare : Head → List ℕ → OpusRepacketizer
+bare h len = collectorOf h len []
+
+-- how far a length is above 1274, and a number above the one before it, modulo 256: each at most 1 where it is sound
+abbrev pub excess : ℕ → ℕ
+excess n = n - 1274
+
+abbrev pub jump : ℕ → ℕ → ℕ
+jump before k = (k + (256 - before)) % 256
+
+abbrev pub unsoundly : Checked
+unsoundly = record { sound = false; total = 0 }
+
+-- lengths and numbers of frames: whether a sound collector can have them, and the sum of the lengths
+abbrev pub keptWell : List ℕ → List ℕ → Bool
+keptWell ns ks = leb (longest ns) mostBytes && numbered ks
+
+abbrev pub checkedHeld : List ℕ → List ℕ → Checked
+checkedHeld ns ks = record { sound = keptWell ns ks; total = cond (keptWell ns ks) (total ns) 0 }
 
 unfoldable pub checked : OpusRepacketizer → Checked
 checked rp = record { sound = sound rp; total = cond (sound rp) (total (heldLengths rp)) 0 }
@@ -56,18 +78,26 @@ addBlock rp toc ns p first store = leavesAdd rp p store (cond (goesWith rp toc (
 abbrev pub hasDirt : Bool → List ℕ → Bool
 hasDirt sd p = leb (length p) mostPacket && dirtyPacket sd p
 
--- why a strict add refuses such a packet, with a store of so many bytes: all that an ordinary add asks comes first
-abbrev pub whyDirty : OpusRepacketizer → List ℕ → ℕ → Refusal
-whyDirty rp p bytes = cond (sound rp) (cond (ltb bytes leastStore) BadArg (cond (staysOut rp p) InvalidPacket DirtyPadding)) InvalidState
+-- why a strict add refuses such a packet: all that an ordinary add asks comes first
+abbrev pub whyDirty : OpusRepacketizer → List ℕ → Refusal
+whyDirty rp p = cond (staysOut rp p) InvalidPacket DirtyPadding
+
+-- an add of either kind to a sound collector with a store that is long enough
+abbrev pub packetAddsBy : Bool → Bool → OpusRepacketizer → List ℕ → Addition
+packetAddsBy false sd rp p = packetAdds sd rp p
+packetAddsBy true sd rp p = unlessDirty (dirtyPacket sd p) (packetAdds sd rp p)
+
+unfoldable pub addPacketBy : Bool → Bool → OpusRepacketizer → List ℕ → List ℕ → Adding
+addPacketBy strict sd rp p store = leavesAdd rp p store (packetAddsBy strict sd rp p)
 
 -- why a packet that cannot be read is refused
 abbrev pub whyNot : OpusRepacketizer → List ℕ → Refusal → Refusal
 whyNot rp p e = cond (staysOut rp p) InvalidPacket e
 
--- the answer is what is said beside the lengths, and the lengths that are left
-abbrev pub addedOf : AddedHead → List ℕ → Added
-addedOf r len =
+-- the answer is what is said beside the lengths and the numbers, and those that are left
+abbrev pub addedOf : AddedHead → List ℕ → List ℕ → Added
+addedOf r len packet =
     record {
       verdict = r .verdict;
-      rp = record { toc = r .toc; «nb_frames» = r .count; framesize = r .framesize; len = len };
+      rp = record { toc = r .toc; «nb_frames» = r .count; framesize = r .framesize; len = len; packet = packet };
     }

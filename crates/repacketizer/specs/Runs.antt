@@ -11,7 +11,7 @@ use Rattle.opus_toc.specs.Toc.{upperSix}
 use Rattle.opus_format.specs.Reading.{read, framesOf}
 use Rattle.repacketizer.specs.declared.OpusRepacketizer.{OpusRepacketizer}
 use Rattle.repacketizer.specs.Collector.{held, leastStore, sound}
-use Rattle.repacketizer.specs.Adding.{Adding, added, addedStrictly}
+use Rattle.repacketizer.specs.Adding.{Adding, addedBy}
 
 -- a collector with its store
 pub record State : Type 0 where
@@ -22,6 +22,7 @@ pub record State : Type 0 where
 pub record Ready (s : State) : Type 0 where
   pub byte : s .rp .toc < 256
   pub lengths48 : length (s .rp .len) ≡ 48
+  pub numbers48 : length (s .rp .packet) ≡ 48
   pub soundly : sound (s .rp) ≡ true
   pub roomy : leastStore ≤ length (s .store)
 
@@ -29,6 +30,7 @@ pub record Ready (s : State) : Type 0 where
 pub record Empty (s : State) : Type 0 where
   pub byte : s .rp .toc < 256
   pub lengths48 : length (s .rp .len) ≡ 48
+  pub numbers48 : length (s .rp .packet) ≡ 48
   pub none : s .rp .«nb_frames» ≡ 0
   pub roomy : leastStore ≤ length (s .store)
 
@@ -48,11 +50,6 @@ pub record Arrival : Type 0 where
 abbrev pub AllBytes : List Arrival → Type 0
 AllBytes [] = Unit {0}
 AllBytes (a ∷ more) = Bytes (a .packet) × AllBytes more
-
--- the two calls that add, by their kind
-abbrev pub addedBy : Bool → Bool → OpusRepacketizer → List ℕ → List ℕ → Adding
-addedBy false sd rp p store = added sd rp p store
-addedBy true sd rp p store = addedStrictly sd rp p store
 
 -- one add to a collector with its store: what it answers, and what it leaves
 abbrev pub adding : State → Arrival → Adding

@@ -1,4 +1,5 @@
-// The collector, and adding packets to it (repacketizer.rs): by value, and as a head with its lengths lent.
+// The collector, and adding packets to it (repacketizer.rs): by value, and as a head with its lengths and numbers lent.
+pub mod numbers;
 pub mod strict;
 
 ghost use mathlib.Core.Path.{_≡_};
@@ -13,9 +14,10 @@ ghost use Rattle.opus_toc.specs.Toc.{upperSix};
 ghost use Rattle.opus_toc.specs.Answers.{nbFrames};
 ghost use Rattle.opus_format.specs.Reading.{lasts};
 ghost use Rattle.opus_format.specs.Frames.{total, longest};
-ghost use Rattle.repacketizer.specs.Collector.{empty, heldLengths, sound, nbFramesHeld, leastStore};
-ghost use Rattle.repacketizer.specs.Adding.{goesWith, saidFrames, staysOut, addPacket, added};
-ghost use Rattle.repacketizer.specs.Parts.{measured, headOf, collectorOf, checked, refusedHead, moreFrames, addBlock, whyNot, addedOf};
+ghost use Rattle.repacketizer.specs.Collector.{empty, heldLengths, framed, sound, nbFramesHeld, leastStore};
+ghost use Rattle.repacketizer.specs.Adding.{goesWith, saidFrames, staysOut, addPacket, added, addedBy};
+ghost use Rattle.repacketizer.specs.Parts.{measured, headOf, collectorOf, bare, unsoundly, checkedHeld, checked, refusedHead, moreFrames};
+ghost use Rattle.repacketizer.specs.Parts.{addBlock, whyNot, addPacketBy, addedOf};
 use opus::Short;
 use opus_defines::Answer;
 use opus_defines::Refusal;
@@ -26,13 +28,15 @@ use opus_toc::Samples8k;
 // The least store, in bytes: 48 frames of 1275.
 pub const LEAST_STORE: usize = 61200;
 
-// Frames lie one behind another in a lent store; here are their lengths, the first packet's TOC byte and the frame size at 8 kHz.
+// Frames lie one behind another in a lent store; here are their lengths, the first packet's TOC byte and the frame size at 8 kHz, and of each frame the
+// number of the accepted packet that it came in, from 0 since the collector was last empty (document 02, M-107).
 #[repr(C)]
 pub struct OpusRepacketizer {
     pub toc: u8,
     pub nb_frames: u16,
     pub framesize: Samples8k,
     pub len: [u16; 48],
+    pub packet: [u8; 48],
 }
 
 // What an add answers: beside a refusal the collector is the one handed in.
@@ -50,6 +54,7 @@ pub fn opus_repacketizer_init() -> OpusRepacketizer
         nb_frames: 0,
         framesize: Samples8k(0),
         len: [0u16; 48],
+        packet: [0u8; 48],
     }
 }
 
@@ -83,7 +88,7 @@ pub fn measure(ns: &[u16]) -> Measured
     }
 }
 
-// A collector without its lengths. They are lent beside it, since each struct that is passed would copy them.
+// A collector without its lengths and numbers. They are lent beside it, since each struct that is passed would copy them.
 pub struct Head {
     pub toc: u8,
     pub nb_frames: u16,
@@ -107,9 +112,33 @@ pub struct Checked {
     pub total: usize,
 }
 
-pub fn check(h: Head, len: &[u16]) -> Checked
-    requires { ⌜ length (now len) ≡ 48 ⌝ }
-    ensures { λ r. ⌜ r ≡ checked (collectorOf h (now (len .entry))) ⌝ }
+fn unsound() -> Checked
+    ensures { λ r. ⌜ r ≡ unsoundly ⌝ }
+{
+    Checked {
+        sound: false,
+        total: 0,
+    }
+}
+
+// The frames' lengths and numbers.
+fn check_held(ns: &[u16], ks: &[u8]) -> Checked
+    requires { ⌜ (1 ≤ length (now ns)) × (length (now ns) ≤ 48) × (length (now ks) ≡ length (now ns)) ⌝ }
+    ensures { λ r. ⌜ r ≡ checkedHeld (now (ns .entry)) (now (ks .entry)) ⌝ }
+{
+    let m = numbers::look(ns, ks);
+    if 1 < m.wrong {
+        return unsound();
+    }
+    Checked {
+        sound: true,
+        total: wide(m.total),
+    }
+}
+
+pub fn check(h: Head, len: &[u16], packet: &[u8]) -> Checked
+    requires { ⌜ (length (now len) ≡ 48) × (length (now packet) ≡ 48) ⌝ }
+    ensures { λ r. ⌜ r ≡ checked (collectorOf h (now (len .entry)) (now (packet .entry))) ⌝ }
 {
     let count = h.nb_frames;
     if count == 0 {
@@ -121,29 +150,13 @@ pub fn check(h: Head, len: &[u16]) -> Checked
     let framesize = h.framesize;
     let each = opus_toc::samples_8k(h.toc);
     if framesize.0 != each.0 {
-        return Checked {
-            sound: false,
-            total: 0,
-        };
+        return unsound();
     }
     if !each.fits(count) {
-        return Checked {
-            sound: false,
-            total: 0,
-        };
+        return unsound();
     }
     let n = wide(count);
-    let m = measure(&len[..n]);
-    if opus_size::MOST_BYTES < wide(m.longest) {
-        return Checked {
-            sound: false,
-            total: 0,
-        };
-    }
-    Checked {
-        sound: true,
-        total: wide(m.total),
-    }
+    check_held(&len[..n], &packet[..n])
 }
 
 // Whether a collector, however wild, is sound.
@@ -151,15 +164,16 @@ pub fn is_sound(rp: OpusRepacketizer) -> bool
     ensures { λ r. ⌜ r ≡ sound rp ⌝ }
 {
     let len = rp.len;
-    let c = check(head_of(rp), &len);
+    let packet = rp.packet;
+    let c = check(head_of(rp), &len, &packet);
     c.sound
 }
 
 // The frames held.
-fn nb_frames_held(h: Head, len: &[u16; 48]) -> Answer
-    ensures { λ r. ⌜ r ≡ nbFramesHeld (collectorOf h (now (len .entry))) ⌝ }
+fn nb_frames_held(h: Head, len: &[u16; 48], packet: &[u8; 48]) -> Answer
+    ensures { λ r. ⌜ r ≡ nbFramesHeld (collectorOf h (now (len .entry)) (now (packet .entry))) ⌝ }
 {
-    let c = check(h, len);
+    let c = check(h, len, packet);
     if !c.sound {
         return Answer::Refused(Refusal::InvalidState);
     }
@@ -167,23 +181,24 @@ fn nb_frames_held(h: Head, len: &[u16; 48]) -> Answer
 }
 
 // The same as a number.
-pub fn nb_frames(h: Head, len: &[u16; 48]) -> i32
-    ensures { λ r. ⌜ r ≡ numberOf (nbFramesHeld (collectorOf h (now (len .entry)))) ⌝ }
+pub fn nb_frames(h: Head, len: &[u16; 48], packet: &[u8; 48]) -> i32
+    ensures { λ r. ⌜ r ≡ numberOf (nbFramesHeld (collectorOf h (now (len .entry)) (now (packet .entry)))) ⌝ }
 {
-    opus_defines::number_of(nb_frames_held(h, len))
+    opus_defines::number_of(nb_frames_held(h, len, packet))
 }
 
 pub fn opus_repacketizer_get_nb_frames(rp: OpusRepacketizer) -> i32
     ensures { λ r. ⌜ r ≡ numberOf (nbFramesHeld rp) ⌝ }
 {
     let len = rp.len;
-    nb_frames(head_of(rp), &len)
+    let packet = rp.packet;
+    nb_frames(head_of(rp), &len, &packet)
 }
 
 // Whether n frames with this TOC byte go with those held, whatever the lengths.
 fn goes_with(h: Head, toc: u8, n: u16) -> bool
     requires { ⌜ (h .«nb_frames» ≤ 48) × (n < 64) ⌝ }
-    ensures { λ r. ⌜ r ≡ goesWith (collectorOf h []) toc n ⌝ }
+    ensures { λ r. ⌜ r ≡ goesWith (bare h []) toc n ⌝ }
 {
     let count = h.nb_frames;
     if count == 0 {
@@ -222,7 +237,7 @@ fn said_frames(data: &[u8]) -> u16
 // Whether a packet does not go with the frames held, by its first bytes.
 fn stays_out(h: Head, data: &[u8]) -> bool
     requires { ⌜ h .«nb_frames» ≤ 48 ⌝ }
-    ensures { λ r. ⌜ r ≡ staysOut (collectorOf h []) (now («data» .entry)) ⌝ }
+    ensures { λ r. ⌜ r ≡ staysOut (bare h []) (now («data» .entry)) ⌝ }
 {
     if data.len() == 0 {
         return false;
@@ -241,7 +256,7 @@ fn stays_out(h: Head, data: &[u8]) -> bool
 // Why a packet that cannot be read is refused: 001 asks first whether it goes with the frames held. For refused packets alone.
 fn why_not(h: Head, data: &[u8], e: Refusal) -> Refusal
     requires { ⌜ h .«nb_frames» ≤ 48 ⌝ }
-    ensures { λ r. ⌜ r ≡ whyNot (collectorOf h []) (now («data» .entry)) e ⌝ }
+    ensures { λ r. ⌜ r ≡ whyNot (bare h []) (now («data» .entry)) e ⌝ }
 {
     if stays_out(h, data) {
         return Refusal::InvalidPacket;
@@ -317,14 +332,14 @@ fn add_block(
     first: usize,
     store: &mut [u8],
 ) -> AddedHead
-    requires collector { ⌜ (length (now len) ≡ 48) × (sound (collectorOf h (now len)) ≡ true)
-        × (at ≡ total (heldLengths (collectorOf h (now len)))) × (leastStore ≤ length (now store)) ⌝ }
+    requires collector { ⌜ (length (now len) ≡ 48) × (framed (bare h (now len)) ≡ true)
+        × (at ≡ total (heldLengths (bare h (now len)))) × (leastStore ≤ length (now store)) ⌝ }
     requires frames { ⌜ (1 ≤ length (now ns)) × (length (now ns) ≤ 48)
         × (longest (now ns) ≤ mostBytes) × (first + total (now ns) ≤ length (now «data»)) ⌝ }
-    ensures answer { λ r. ⌜ addedOf r (now (len .exit))
-        ≡ addBlock (collectorOf h (now (len .entry))) toc (now (ns .entry)) (now («data» .entry)) first (now (store .entry)) .answer ⌝ }
+    ensures answer { λ r. ⌜ addedOf r (now (len .exit)) []
+        ≡ addBlock (bare h (now (len .entry))) toc (now (ns .entry)) (now («data» .entry)) first (now (store .entry)) .answer ⌝ }
     ensures bytes { λ _. ⌜ now (store .exit)
-        ≡ addBlock (collectorOf h (now (len .entry))) toc (now (ns .entry)) (now («data» .entry)) first (now (store .entry)) .store ⌝ }
+        ≡ addBlock (bare h (now (len .entry))) toc (now (ns .entry)) (now («data» .entry)) first (now (store .entry)) .store ⌝ }
     ensures few { λ r. ⌜ r .count < 65536 ⌝ }
 {
     if !goes_with(h, toc, ns.len() as u16) {
@@ -347,13 +362,13 @@ fn add_one(
     first: usize,
     store: &mut [u8],
 ) -> AddedHead
-    requires collector { ⌜ (length (now len) ≡ 48) × (sound (collectorOf h (now len)) ≡ true)
-        × (at ≡ total (heldLengths (collectorOf h (now len)))) × (leastStore ≤ length (now store)) ⌝ }
+    requires collector { ⌜ (length (now len) ≡ 48) × (framed (bare h (now len)) ≡ true)
+        × (at ≡ total (heldLengths (bare h (now len)))) × (leastStore ≤ length (now store)) ⌝ }
     requires frames { ⌜ (longest (n ∷ []) ≤ mostBytes) × (first + total (n ∷ []) ≤ length (now «data»)) ⌝ }
-    ensures answer { λ r. ⌜ addedOf r (now (len .exit))
-        ≡ addBlock (collectorOf h (now (len .entry))) toc (n ∷ []) (now («data» .entry)) first (now (store .entry)) .answer ⌝ }
+    ensures answer { λ r. ⌜ addedOf r (now (len .exit)) []
+        ≡ addBlock (bare h (now (len .entry))) toc (n ∷ []) (now («data» .entry)) first (now (store .entry)) .answer ⌝ }
     ensures bytes { λ _. ⌜ now (store .exit)
-        ≡ addBlock (collectorOf h (now (len .entry))) toc (n ∷ []) (now («data» .entry)) first (now (store .entry)) .store ⌝ }
+        ≡ addBlock (bare h (now (len .entry))) toc (n ∷ []) (now («data» .entry)) first (now (store .entry)) .store ⌝ }
     ensures few { λ r. ⌜ r .count < 65536 ⌝ }
 {
     if !goes_with(h, toc, 1) {
@@ -377,13 +392,13 @@ fn add_two(
     first: usize,
     store: &mut [u8],
 ) -> AddedHead
-    requires collector { ⌜ (length (now len) ≡ 48) × (sound (collectorOf h (now len)) ≡ true)
-        × (at ≡ total (heldLengths (collectorOf h (now len)))) × (leastStore ≤ length (now store)) ⌝ }
+    requires collector { ⌜ (length (now len) ≡ 48) × (framed (bare h (now len)) ≡ true)
+        × (at ≡ total (heldLengths (bare h (now len)))) × (leastStore ≤ length (now store)) ⌝ }
     requires frames { ⌜ (longest (m ∷ n ∷ []) ≤ mostBytes) × (first + total (m ∷ n ∷ []) ≤ length (now «data»)) ⌝ }
-    ensures answer { λ r. ⌜ addedOf r (now (len .exit))
-        ≡ addBlock (collectorOf h (now (len .entry))) toc (m ∷ n ∷ []) (now («data» .entry)) first (now (store .entry)) .answer ⌝ }
+    ensures answer { λ r. ⌜ addedOf r (now (len .exit)) []
+        ≡ addBlock (bare h (now (len .entry))) toc (m ∷ n ∷ []) (now («data» .entry)) first (now (store .entry)) .answer ⌝ }
     ensures bytes { λ _. ⌜ now (store .exit)
-        ≡ addBlock (collectorOf h (now (len .entry))) toc (m ∷ n ∷ []) (now («data» .entry)) first (now (store .entry)) .store ⌝ }
+        ≡ addBlock (bare h (now (len .entry))) toc (m ∷ n ∷ []) (now («data» .entry)) first (now (store .entry)) .store ⌝ }
     ensures few { λ r. ⌜ r .count < 65536 ⌝ }
 {
     if !goes_with(h, toc, 2) {
@@ -396,7 +411,7 @@ fn add_two(
     more_frames(h, toc, 2)
 }
 
-// Reads a packet of any code and adds it to a sound collector.
+// Reads a packet of any code and adds it to a sound collector, whose numbers it leaves aside.
 fn add_read(
     h: Head,
     len: &mut [u16],
@@ -405,12 +420,12 @@ fn add_read(
     self_delimited: bool,
     store: &mut [u8],
 ) -> AddedHead
-    requires collector { ⌜ (length (now len) ≡ 48) × (sound (collectorOf h (now len)) ≡ true)
-        × (at ≡ total (heldLengths (collectorOf h (now len)))) × (leastStore ≤ length (now store)) ⌝ }
-    ensures answer { λ r. ⌜ addedOf r (now (len .exit))
-        ≡ addPacket «self_delimited» (collectorOf h (now (len .entry))) (now («data» .entry)) (now (store .entry)) .answer ⌝ }
+    requires collector { ⌜ (length (now len) ≡ 48) × (framed (bare h (now len)) ≡ true)
+        × (at ≡ total (heldLengths (bare h (now len)))) × (leastStore ≤ length (now store)) ⌝ }
+    ensures answer { λ r. ⌜ addedOf r (now (len .exit)) []
+        ≡ addPacket «self_delimited» (bare h (now (len .entry))) (now («data» .entry)) (now (store .entry)) .answer ⌝ }
     ensures bytes { λ _. ⌜ now (store .exit)
-        ≡ addPacket «self_delimited» (collectorOf h (now (len .entry))) (now («data» .entry)) (now (store .entry)) .store ⌝ }
+        ≡ addPacket «self_delimited» (bare h (now (len .entry))) (now («data» .entry)) (now (store .entry)) .store ⌝ }
     ensures few { λ r. ⌜ r .count < 65536 ⌝ }
 {
     if opus::MOST_PACKET < data.len() {
@@ -437,12 +452,12 @@ fn add_packet(
     self_delimited: bool,
     store: &mut [u8],
 ) -> AddedHead
-    requires { ⌜ (length (now len) ≡ 48) × (sound (collectorOf h (now len)) ≡ true) × (at ≡ total (heldLengths (collectorOf h (now len))))
+    requires { ⌜ (length (now len) ≡ 48) × (framed (bare h (now len)) ≡ true) × (at ≡ total (heldLengths (bare h (now len))))
         × (leastStore ≤ length (now store)) ⌝ }
-    ensures answer { λ r. ⌜ addedOf r (now (len .exit))
-        ≡ addPacket «self_delimited» (collectorOf h (now (len .entry))) (now («data» .entry)) (now (store .entry)) .answer ⌝ }
+    ensures answer { λ r. ⌜ addedOf r (now (len .exit)) []
+        ≡ addPacket «self_delimited» (bare h (now (len .entry))) (now («data» .entry)) (now (store .entry)) .answer ⌝ }
     ensures bytes { λ _. ⌜ now (store .exit)
-        ≡ addPacket «self_delimited» (collectorOf h (now (len .entry))) (now («data» .entry)) (now (store .entry)) .store ⌝ }
+        ≡ addPacket «self_delimited» (bare h (now (len .entry))) (now («data» .entry)) (now (store .entry)) .store ⌝ }
     ensures few { λ r. ⌜ r .count < 65536 ⌝ }
 {
     if self_delimited {
@@ -456,42 +471,104 @@ fn add_packet(
     }
 }
 
-// Adds a packet in the named delimiting to the collector with this head and these lengths.
+// Adds a packet to a sound collector, unless it is to be added strictly and its padding is dirty.
+fn add_by(
+    h: Head,
+    len: &mut [u16],
+    at: usize,
+    data: &[u8],
+    self_delimited: bool,
+    strict: bool,
+    store: &mut [u8],
+) -> AddedHead
+    requires { ⌜ (length (now len) ≡ 48) × (framed (bare h (now len)) ≡ true) × (at ≡ total (heldLengths (bare h (now len))))
+        × (leastStore ≤ length (now store)) ⌝ }
+    ensures answer { λ r. ⌜ addedOf r (now (len .exit)) []
+        ≡ addPacketBy strict «self_delimited» (bare h (now (len .entry))) (now («data» .entry)) (now (store .entry)) .answer ⌝ }
+    ensures bytes { λ _. ⌜ now (store .exit)
+        ≡ addPacketBy strict «self_delimited» (bare h (now (len .entry))) (now («data» .entry)) (now (store .entry)) .store ⌝ }
+    ensures few { λ r. ⌜ r .count < 65536 ⌝ }
+{
+    if strict::asks_dirt(strict, data, self_delimited) {
+        return refused_add(strict::dirty_refusal(h, data), h);
+    }
+    add_packet(h, len, at, data, self_delimited, store)
+}
+
+// The same with the numbers: the new frames get that of the packet.
+fn add_numbered(
+    h: Head,
+    len: &mut [u16],
+    packet: &mut [u8],
+    at: usize,
+    data: &[u8],
+    self_delimited: bool,
+    strict: bool,
+    store: &mut [u8],
+) -> AddedHead
+    requires { ⌜ (length (now len) ≡ 48) × (length (now packet) ≡ 48) × (sound (collectorOf h (now len) (now packet)) ≡ true)
+        × (at ≡ total (heldLengths (collectorOf h (now len) (now packet)))) × (leastStore ≤ length (now store)) ⌝ }
+    ensures answer { λ r. ⌜ addedOf r (now (len .exit)) (now (packet .exit))
+        ≡ addPacketBy strict «self_delimited» (collectorOf h (now (len .entry)) (now (packet .entry))) (now («data» .entry)) (now (store .entry))
+        .answer ⌝ }
+    ensures bytes { λ _. ⌜ now (store .exit)
+        ≡ addPacketBy strict «self_delimited» (collectorOf h (now (len .entry)) (now (packet .entry))) (now («data» .entry)) (now (store .entry))
+        .store ⌝ }
+    ensures few { λ r. ⌜ r .count < 65536 ⌝ }
+{
+    let a = add_by(h, len, at, data, self_delimited, strict, store);
+    numbers::put_numbers(packet, wide(h.nb_frames), a.count);
+    a
+}
+
+// Adds a packet in the named delimiting, strictly or not, to the collector with this head, these lengths and these numbers.
 pub fn add(
     h: Head,
     len: &mut [u16; 48],
+    packet: &mut [u8; 48],
     data: &[u8],
     self_delimited: bool,
+    strict: bool,
     store: &mut [u8],
 ) -> AddedHead
-    ensures answer { λ r. ⌜ addedOf r (now (len .exit))
-        ≡ added «self_delimited» (collectorOf h (now (len .entry))) (now («data» .entry)) (now (store .entry)) .answer ⌝ }
+    ensures answer { λ r. ⌜ addedOf r (now (len .exit)) (now (packet .exit))
+        ≡ addedBy strict «self_delimited» (collectorOf h (now (len .entry)) (now (packet .entry))) (now («data» .entry)) (now (store .entry)) .answer ⌝ }
     ensures bytes { λ _. ⌜ now (store .exit)
-        ≡ added «self_delimited» (collectorOf h (now (len .entry))) (now («data» .entry)) (now (store .entry)) .store ⌝ }
+        ≡ addedBy strict «self_delimited» (collectorOf h (now (len .entry)) (now (packet .entry))) (now («data» .entry)) (now (store .entry)) .store ⌝ }
     ensures few { λ r. ⌜ r .count < 65536 ⌝ }
 {
-    let c = check(h, &len[..]);
+    let c = check(h, &len[..], &packet[..]);
     if !c.sound {
         return refused_add(Refusal::InvalidState, h);
     }
     if store.len() < LEAST_STORE {
         return refused_add(Refusal::BadArg, h);
     }
-    add_packet(h, len, c.total, data, self_delimited, store)
+    add_numbered(h, len, packet, c.total, data, self_delimited, strict, store)
 }
 
-// Adds a packet in the named delimiting to the collector, whose frames stand in the store.
+// Adds a packet in the named delimiting, strictly or not, to the collector, whose frames stand in the store.
 fn opus_repacketizer_cat_impl(
     rp: OpusRepacketizer,
     data: &[u8],
     self_delimited: bool,
+    strict: bool,
     store: &mut [u8],
 ) -> Added
-    ensures answer { λ r. ⌜ r ≡ added «self_delimited» rp (now («data» .entry)) (now (store .entry)) .answer ⌝ }
-    ensures bytes { λ _. ⌜ now (store .exit) ≡ added «self_delimited» rp (now («data» .entry)) (now (store .entry)) .store ⌝ }
+    ensures answer { λ r. ⌜ r ≡ addedBy strict «self_delimited» rp (now («data» .entry)) (now (store .entry)) .answer ⌝ }
+    ensures bytes { λ _. ⌜ now (store .exit) ≡ addedBy strict «self_delimited» rp (now («data» .entry)) (now (store .entry)) .store ⌝ }
 {
     let mut len = rp.len;
-    let a = add(head_of(rp), &mut len, data, self_delimited, store);
+    let mut packet = rp.packet;
+    let a = add(
+        head_of(rp),
+        &mut len,
+        &mut packet,
+        data,
+        self_delimited,
+        strict,
+        store,
+    );
     let each = a.framesize;
     let v = a.verdict;
     Added {
@@ -501,6 +578,7 @@ fn opus_repacketizer_cat_impl(
             nb_frames: a.count as u16,
             framesize: each,
             len,
+            packet,
         },
     }
 }
@@ -510,5 +588,5 @@ pub fn opus_repacketizer_cat(rp: OpusRepacketizer, data: &[u8], store: &mut [u8]
     ensures answer { λ r. ⌜ r ≡ added false rp (now («data» .entry)) (now (store .entry)) .answer ⌝ }
     ensures bytes { λ _. ⌜ now (store .exit) ≡ added false rp (now («data» .entry)) (now (store .entry)) .store ⌝ }
 {
-    opus_repacketizer_cat_impl(rp, data, false, store)
+    opus_repacketizer_cat_impl(rp, data, false, false, store)
 }

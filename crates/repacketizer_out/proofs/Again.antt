@@ -36,7 +36,7 @@ use Rattle.repacketizer.specs.Collector.{held, heldLengths}
 use Rattle.repacketizer.specs.Adding.{Adding, goesWith, withFrames}
 use Rattle.repacketizer.specs.Runs.{State, Ready, Empty, Holds, Arrival, AllAccepted, adding, afterAdd, afterAdds}
 use Rattle.opus_format.proofs.Lengths.{longest-append}
-use Rattle.repacketizer.proofs.Sound.{lasts-timed, sound-full}
+use Rattle.repacketizer.proofs.Sound.{lasts-timed, sound-framed, framed-full}
 use Rattle.repacketizer.proofs.Held.{Holding}
 use Rattle.repacketizer.proofs.Adds.{goes-none, goes-time, taken, add-sound, add-read, block-added}
 use Rattle.repacketizer.proofs.StrictAdds.{by-clean}
@@ -106,7 +106,7 @@ module _ (sd : Bool) (six : ℕ) (k : six < 64) {s : State} {done : List (List �
       let six-is : upperSix (s .rp .toc) ≡ six = h .same (omega (arith, count)) in
       let all : Lasts (upperSix (s .rp .toc)) (s .rp .«nb_frames» + length ns) = rw (six-is, count, length-map piece length) l in
       sym (goes-time (s .rp) toc (length ns) z (spelled-back spells .1 ∙ sym six-is))
-      ∙ lasts-timed (r .byte) (sound-full (s .rp) z (r .soundly) .timed .size) all .time)
+      ∙ lasts-timed (r .byte) (framed-full (s .rp) z (sound-framed (s .rp) (r .soundly)) .timed .size) all .time)
 
   abbrev one : Arrival
   one = packed sd six (record { strict = strict; frames = piece })

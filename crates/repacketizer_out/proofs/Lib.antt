@@ -1,5 +1,6 @@
 pub mod Ranges
 pub mod Outputs
+pub mod Numbered
 pub mod Put
 pub mod Packets
 pub mod Again

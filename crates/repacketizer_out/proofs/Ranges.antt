@@ -22,6 +22,7 @@ use Rattle.repacketizer.specs.declared.Measured.{Measured}
 use Rattle.repacketizer.specs.Collector.{held, heldLengths, leastStore}
 use Rattle.repacketizer.specs.Parts.{measured}
 use Rattle.repacketizer.specs.Runs.{State, Ready}
+use Rattle.repacketizer.proofs.Sound.{sound-framed}
 use Rattle.repacketizer.proofs.Held.{Holding, holding}
 use Rattle.repacketizer_out.specs.Output.{range}
 
@@ -119,7 +120,7 @@ part-from {rp} {b} p m q f =
 
 -- ---- the same of a collector with its store
 pub ready-holding : (s : State) → Ready s → Holding (s .rp)
-ready-holding s r = holding (s .rp) (r .byte) (r .lengths48) (r .soundly)
+ready-holding s r = holding (s .rp) (r .byte) (r .lengths48) (sound-framed (s .rp) (r .soundly))
 
 module _ (s : State) (r : Ready s) (b e : ℕ) (some : b < e) (within : e ≤ length (held (s .rp) (s .store))) where
   part : Part (s .rp) b e

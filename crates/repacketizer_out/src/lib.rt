@@ -1,4 +1,6 @@
 // Output of a range of the frames that a collector holds (repacketizer.rs).
+pub mod by_number;
+
 ghost use mathlib.Core.Path.{_≡_};
 ghost use mathlib.Core.List.{_++_};
 ghost use mathlib.Core.Bool.{true, false};
@@ -13,8 +15,8 @@ ghost use Rattle.opus_toc.specs.Toc.{upperSix};
 ghost use Rattle.opus_format.specs.Frames.{cut, total, longest};
 ghost use Rattle.blocks.specs.Blocks.{part};
 ghost use Rattle.opus_header.specs.Sums.{sumsOf, headerOf};
-ghost use Rattle.repacketizer.specs.Collector.{held, leastStore, sound};
-ghost use Rattle.repacketizer.specs.Parts.{collectorOf};
+ghost use Rattle.repacketizer.specs.Collector.{held, leastStore, framed};
+ghost use Rattle.repacketizer.specs.Parts.{collectorOf, bare};
 ghost use Rattle.repacketizer_out.specs.Output.{output, outFrames, outRange, outAll};
 use opus_defines::Answer;
 use opus_defines::Count;
@@ -97,15 +99,15 @@ fn out_frames(
     self_delimited: bool,
     pad: bool,
 ) -> Answer
-    requires collector { ⌜ (length (now len) ≡ 48) × (sound (collectorOf h (now len)) ≡ true) ⌝ }
+    requires collector { ⌜ (length (now len) ≡ 48) × (framed (bare h (now len)) ≡ true) ⌝ }
     requires buffers { ⌜ (leastStore ≤ length (now store)) × (length (now «data») ≤ 65535) ⌝ }
     ensures number { λ r. ⌜ numberOf r
         ≡ leaves (now («data» .entry))
-        (outFrames «self_delimited» pad (upperSix (h .toc)) (held (collectorOf h (now (len .entry))) (now (store .entry))) (pos begin) (pos end)
+        (outFrames «self_delimited» pad (upperSix (h .toc)) (held (bare h (now (len .entry))) (now (store .entry))) (pos begin) (pos end)
         (length (now («data» .entry)))) .report .number ⌝ }
     ensures bytes { λ _. ⌜ now («data» .exit)
         ≡ leaves (now («data» .entry))
-        (outFrames «self_delimited» pad (upperSix (h .toc)) (held (collectorOf h (now (len .entry))) (now (store .entry))) (pos begin) (pos end)
+        (outFrames «self_delimited» pad (upperSix (h .toc)) (held (bare h (now (len .entry))) (now (store .entry))) (pos begin) (pos end)
         (length (now («data» .entry)))) .bytes ⌝ }
 {
     let n = wide(h.nb_frames);
@@ -131,6 +133,7 @@ fn out_frames(
 fn out_answer(
     h: Head,
     len: &[u16; 48],
+    packet: &[u8; 48],
     store: &[u8],
     begin: i32,
     end: i32,
@@ -139,11 +142,12 @@ fn out_answer(
     pad: bool,
 ) -> Answer
     ensures number { λ r. ⌜ numberOf r
-        ≡ outRange «self_delimited» pad (collectorOf h (now (len .entry))) (now (store .entry)) begin end (now («data» .entry)) .report .number ⌝ }
+        ≡ outRange «self_delimited» pad (collectorOf h (now (len .entry)) (now (packet .entry))) (now (store .entry)) begin end (now («data» .entry))
+        .report .number ⌝ }
     ensures bytes { λ _. ⌜ now («data» .exit)
-        ≡ outRange «self_delimited» pad (collectorOf h (now (len .entry))) (now (store .entry)) begin end (now («data» .entry)) .bytes ⌝ }
+        ≡ outRange «self_delimited» pad (collectorOf h (now (len .entry)) (now (packet .entry))) (now (store .entry)) begin end (now («data» .entry)) .bytes ⌝ }
 {
-    let c = repacketizer::check(h, len);
+    let c = repacketizer::check(h, len, packet);
     if !c.sound {
         return Answer::Refused(Refusal::InvalidState);
     }
@@ -166,6 +170,7 @@ fn out_answer(
 pub fn out_lent(
     h: Head,
     len: &[u16; 48],
+    packet: &[u8; 48],
     store: &[u8],
     begin: i32,
     end: i32,
@@ -174,11 +179,22 @@ pub fn out_lent(
     pad: bool,
 ) -> i32
     ensures number { λ r. ⌜ r
-        ≡ outRange «self_delimited» pad (collectorOf h (now (len .entry))) (now (store .entry)) begin end (now («data» .entry)) .report .number ⌝ }
+        ≡ outRange «self_delimited» pad (collectorOf h (now (len .entry)) (now (packet .entry))) (now (store .entry)) begin end (now («data» .entry))
+        .report .number ⌝ }
     ensures bytes { λ _. ⌜ now («data» .exit)
-        ≡ outRange «self_delimited» pad (collectorOf h (now (len .entry))) (now (store .entry)) begin end (now («data» .entry)) .bytes ⌝ }
+        ≡ outRange «self_delimited» pad (collectorOf h (now (len .entry)) (now (packet .entry))) (now (store .entry)) begin end (now («data» .entry)) .bytes ⌝ }
 {
-    opus_defines::number_of(out_answer(h, len, store, begin, end, data, self_delimited, pad))
+    opus_defines::number_of(out_answer(
+        h,
+        len,
+        packet,
+        store,
+        begin,
+        end,
+        data,
+        self_delimited,
+        pad,
+    ))
 }
 
 // Writes the frames begin..end as one packet in the named delimiting, which fills `data` where padding is asked for, and answers its bytes.
@@ -196,7 +212,18 @@ pub fn opus_repacketizer_out_range_impl(
 {
     let h = repacketizer::head_of(rp);
     let len = rp.len;
-    out_lent(h, &len, store, begin, end, data, self_delimited, pad)
+    let packet = rp.packet;
+    out_lent(
+        h,
+        &len,
+        &packet,
+        store,
+        begin,
+        end,
+        data,
+        self_delimited,
+        pad,
+    )
 }
 
 // The same, ordinary and without padding.

@@ -6,7 +6,7 @@ use native.Mathlib.Omega.{arith}
 use borrow.Author.Needs.{needs}
 use Rattle.laws.specs.Bytes.{Bytes}
 use Rattle.opus.proofs.AtShort.{ShortRead, one-read, two-read}
-use Rattle.repacketizer.specs.Parts.{collectorOf}
+use Rattle.repacketizer.specs.Parts.{bare}
 use Rattle.repacketizer.proofs.Adds.{add-read}
 use Rattle.repacketizer.proofs.add_packet.Statement.{statement}
 use Rattle.repacketizer.proofs.add_packet.Tie as tie
@@ -51,7 +51,7 @@ returns-2 c =
     let t = b .before .before .before .before .before in
     let k = t .before .before in
     let a = entry k .args in
-    let rp = collectorOf (a .h) (a .len .now) in
+    let rp = bare (a .h) (a .len .now) in
     rw (k .before .if1 .left, add-read false rp (a .«data» .now) (a .store .now) _ _ _ (one t .taken) (bytes (known k)) (one t .short) (one t .means))
     (b .add-one .ensures)
 
@@ -79,7 +79,7 @@ returns-3 c =
     let t = b .before .before .before .before .before in
     let k = t .before .before in
     let a = entry k .args in
-    let rp = collectorOf (a .h) (a .len .now) in
+    let rp = bare (a .h) (a .len .now) in
     rw (k .before .if1 .left, add-read false rp (a .«data» .now) (a .store .now) _ _ _ (two t .taken) (bytes (known k)) (two t .short) (two t .means))
     (b .add-two .ensures)
 

@@ -9,7 +9,7 @@ use Rattle.laws.specs.Bytes.{Bytes}
 use Rattle.opus_format.proofs.Facts.{facts}
 use Rattle.opus.proofs.Parsed.{Read, lengthsOf}
 use Rattle.opus.proofs.Lent.{packetWith}
-use Rattle.repacketizer.specs.Parts.{collectorOf}
+use Rattle.repacketizer.specs.Parts.{bare}
 use Rattle.repacketizer.proofs.Parsed.{lent-read, lent-refused}
 use Rattle.repacketizer.proofs.Adds.{head-few, add-long, add-read, why-refused, refused-as}
 use Rattle.repacketizer.proofs.add_read.Statement.{statement}
@@ -18,7 +18,7 @@ use Rattle.repacketizer.proofs.add_read.Tie as tie
 returns : tie.Need-returns
 returns c =
     let a = c .before .before .before .before .before .args in
-    let rp = collectorOf (a .h) (a .len .now) in
+    let rp = bare (a .h) (a .len .now) in
     refused-as (add-long (a .self-delimited) rp (a .«data» .now) (a .store .now) (c .before .if1 .taken)) (c .refused-add .ensures)
 
 -- where the packet's bytes are known, and the entry
@@ -62,7 +62,7 @@ returns-2 c =
     let r = t .before .before in
     let a = entry r .args in
     let q = packetWith (r .read-into .result) (r .read-into .last .1 .1 .0) in
-    let rp = collectorOf (a .h) (a .len .now) in
+    let rp = bare (a .h) (a .len .now) in
     rw (add-read (a .self-delimited) rp (a .«data» .now) (a .store .now) (q .toc) (lengthsOf q) (q .first) (q .taken)
     (record { byte = λ i. known r .shared-slice-known .given i .fits }) (reading t .short) (reading t .means))
     (b .add-block .ensures)
@@ -81,7 +81,7 @@ returns-3 c =
     let a = entry r .args in
     let lent = r .read-into .last .1 .1 .0 in
     let short = r .before .before .if1 .left in
-    let rp = collectorOf (a .h) (a .len .now) in
+    let rp = bare (a .h) (a .len .now) in
     let refused =
     lent-refused (a .self-delimited) (a .«data» .now) (r .read-into .result) lent (r .read-into .ensures) short (v .v .given .1) rp (a .store .now) in
     refused-as (why-refused (a .h) (a .len .now) (a .«data» .now) (a .store .now) _ (c .before .why-not .ensures) refused) (c .refused-add2 .ensures)

@@ -10,9 +10,10 @@ use Rattle.repacketizer.proofs.is_sound.Tie as tie
 
 returns : tie.Need-returns
 returns c =
-    let h = c .before .before .head-of in
-    let rp = c .before .before .before .before .args .rp in
-    checked-sound (collectorOf (h .result) (rp .len)) (c .check .result) (c .check .ensures) ∙ ap sound (headed rp (h .result) (h .ensures))
+    let h = c .before .before .before in
+    let rp = h .before .before .before .args .rp in
+    let o = h .head-of in
+    checked-sound (collectorOf (o .result) (rp .len) (rp .packet)) (c .check .result) (c .check .ensures) ∙ ap sound (headed rp (o .result) (o .ensures))
 
 pub is-sound-spec : {M : Type 1} → statement M
-is-sound-spec = tie.close (tie.spec (λ c κs. search needs) (λ c. search needs) (λ c κs. search needs) returns)
+is-sound-spec = tie.close (tie.spec (λ c κs. search needs) (λ c. search needs) (λ c. search needs) (λ c κs. search needs) returns)

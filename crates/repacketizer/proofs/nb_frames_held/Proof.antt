@@ -3,6 +3,7 @@
 use mathlib.Core.Path.{_≡_, sym, _∙_}
 use borrow.Author.Needs.{needs}
 use borrow.Author.Tests.{not-true, not-false}
+use Rattle.repacketizer.specs.declared.OpusRepacketizer.{OpusRepacketizer}
 use Rattle.repacketizer.specs.Collector.{sound}
 use Rattle.repacketizer.specs.Parts.{collectorOf}
 use Rattle.repacketizer.proofs.Checks.{checked-sound}
@@ -10,22 +11,21 @@ use Rattle.repacketizer.proofs.Sound.{unsound-number, sound-number}
 use Rattle.repacketizer.proofs.nb_frames_held.Statement.{statement}
 use Rattle.repacketizer.proofs.nb_frames_held.Tie as tie
 
-found : (c : tie.After-check) → let a = c .before .before .args in c .check .result .sound ≡ sound (collectorOf (a .h) (a .len .now))
-found c =
-    let a = c .before .before .args in
-    checked-sound (collectorOf (a .h) (a .len .now)) (c .check .result) (c .check .ensures)
+abbrev taken : tie.After-check → OpusRepacketizer
+taken c = let a = c .before .before .before .args in collectorOf (a .h) (a .len .now) (a .packet .now)
+
+found : (c : tie.After-check) → c .check .result .sound ≡ sound (taken c)
+found c = checked-sound (taken c) (c .check .result) (c .check .ensures)
 
 returns : tie.Need-returns
 returns c =
     let k = c .before .before in
-    let a = k .before .before .args in
-    unsound-number (collectorOf (a .h) (a .len .now)) (sym (found k) ∙ not-true _ (c .if1 .taken))
+    unsound-number (taken k) (sym (found k) ∙ not-true _ (c .if1 .taken))
 
 returns-2 : tie.Need-returns-2
 returns-2 c =
     let k = c .before .before in
-    let a = k .before .before .args in
-    sound-number (collectorOf (a .h) (a .len .now)) (sym (found k) ∙ not-false _ (c .if1 .left))
+    sound-number (taken k) (sym (found k) ∙ not-false _ (c .if1 .left))
 
 pub nb-frames-held-spec : {M : Type 1} → statement M
 nb-frames-held-spec = tie.close (tie.spec (λ c κs. search needs) returns returns-2)

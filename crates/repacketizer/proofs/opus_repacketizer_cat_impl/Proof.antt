@@ -8,8 +8,8 @@ use Rattle.repacketizer.proofs.opus_repacketizer_cat_impl.Tie as tie
 returns : tie.Need-returns
 returns c =
     let b = c .before .before .before .before in
-    let h = b .before .before .before in
-    let rp = h .before .before .before .before .args .rp in
+    let h = b .before .before .before .before in
+    let rp = h .before .before .before .before .before .args .rp in
     let e = rw (headed rp (h .head-of .result) (h .head-of .ensures)) at (b .add .ensures) in
     (e .0, e .1 .0)
 

@@ -10,9 +10,9 @@ use Rattle.repacketizer.proofs.opus_repacketizer_get_nb_frames.Tie as t
 
 returns : tie.Need-returns
 returns c =
-    let h = c .before .before in
+    let h = c .before .before .before in
     let back : toZ w32 (ofZ w32 (c .nb-frames .result)) ≡ c .nb-frames .result = search needs in
-    back ∙ (rw (headed (h .before .before .args .rp) (h .head-of .result) (h .head-of .ensures)) at (c .nb-frames .ensures))
+    back ∙ (rw (headed (h .before .before .before .args .rp) (h .head-of .result) (h .head-of .ensures)) at (c .nb-frames .ensures))
 
 pub opus-repacketizer-get-nb-frames-spec : {M : Type 1} → statement M
 opus-repacketizer-get-nb-frames-spec = tie.close (tie.spec (λ c κs. search needs) (λ c κs. search needs) returns)

@@ -3,7 +3,7 @@
 use mathlib.Core.Path.{sym, _∙_}
 use mathlib.Core.List.{[]}
 use borrow.Author.Needs.{needs}
-use Rattle.repacketizer.specs.Parts.{collectorOf}
+use Rattle.repacketizer.specs.Parts.{bare}
 use Rattle.repacketizer.proofs.Adds.{stays-none, stays-goes, stays-other, stays-lasting}
 use Rattle.repacketizer.proofs.stays_out.Statement.{statement}
 use Rattle.repacketizer.proofs.stays_out.Tie as tie
@@ -11,7 +11,7 @@ use Rattle.repacketizer.proofs.stays_out.Tie as tie
 returns : tie.Need-returns
 returns c =
     let a = c .before .before .args in
-    stays-none (collectorOf (a .h) []) (a .«data» .now) (c .if1 .taken)
+    stays-none (bare (a .h) []) (a .«data» .now) (c .if1 .taken)
 
 returns-2 : tie.Need-returns-2
 returns-2 c =
@@ -19,7 +19,7 @@ returns-2 c =
     let n = g .before .said-frames in
     let i = g .before .before .before in
     let a = i .before .before .args in
-    stays-goes (collectorOf (a .h) []) (a .«data» .now) (i .if1 .left) (n .result) (n .ensures .0) (sym (g .goes-with .ensures) ∙ c .if2 .taken)
+    stays-goes (bare (a .h) []) (a .«data» .now) (i .if1 .left) (n .result) (n .ensures .0) (sym (g .goes-with .ensures) ∙ c .if2 .taken)
 
 returns-3 : tie.Need-returns-3
 returns-3 c =
@@ -27,7 +27,7 @@ returns-3 c =
     let n = g .before .said-frames in
     let i = g .before .before .before in
     let a = i .before .before .args in
-    stays-other (collectorOf (a .h) []) (a .«data» .now) (i .if1 .left) (n .result) (n .ensures .0)
+    stays-other (bare (a .h) []) (a .«data» .now) (i .if1 .left) (n .result) (n .ensures .0)
     (sym (g .goes-with .ensures) ∙ c .before .before .if2 .left)
     (λ e. c .if3 .taken (sym e))
 
@@ -38,7 +38,7 @@ returns-4 c =
     let n = g .before .said-frames in
     let i = g .before .before .before in
     let a = i .before .before .args in
-    stays-lasting (collectorOf (a .h) []) (a .«data» .now) (i .if1 .left) (n .result) (n .ensures .0)
+    stays-lasting (bare (a .h) []) (a .«data» .now) (i .if1 .left) (n .result) (n .ensures .0)
     (sym (g .goes-with .ensures) ∙ t .before .before .if2 .left)
     (sym (t .if3 .left)) (c .lasting .ensures)
 

@@ -13,7 +13,8 @@ returns : tie.Need-returns
 returns c =
     let l = c .before .before in
     let r = l .out-lent in
-    let h = l .before .before .before .before in
+    let k = l .before .before .before in
+    let h = k .before .before .before in
     let s = h .before .before .before in
     let a = s .args in
     let back : toZ w32 (ofZ w32 (r .result)) ≡ r .result = search needs in

@@ -11,6 +11,7 @@ use Rattle.opus_toc.specs.Toc.{upperSix}
 use Rattle.repacketizer.specs.declared.OpusRepacketizer.{OpusRepacketizer}
 use Rattle.repacketizer.specs.Collector.{held, sound}
 use Rattle.repacketizer.specs.Parts.{collectorOf}
+use Rattle.repacketizer.proofs.Sound.{sound-bare}
 use Rattle.repacketizer.proofs.Checks.{checked-sound}
 use Rattle.repacketizer_out.specs.Output.{outFrames, outRange}
 use Rattle.opus_defines.specs.Outcome.{leaves}
@@ -20,11 +21,11 @@ use Rattle.repacketizer_out.proofs.out_answer.Statement.{statement}
 use Rattle.repacketizer_out.proofs.out_answer.Tie as tie
 
 abbrev entry : tie.After-check → tie.Start
-entry c = c .before .before .before .before
+entry c = let k = c .before .before in k .before .before .before
 
--- the collector of which the code has the head and the lengths
+-- the collector of which the code has the head, the lengths and the numbers
 abbrev taken : (c : tie.After-check) → OpusRepacketizer
-taken c = collectorOf (entry c .args .h) (entry c .args .len .now)
+taken c = let a = entry c .args in collectorOf (a .h) (a .len .now) (a .packet .now)
 
 found : (c : tie.After-check) → c .check .result .sound ≡ sound (taken c)
 found c = checked-sound (taken c) (c .check .result) (c .check .ensures)
@@ -108,7 +109,9 @@ out-frames-requires c κs =
     let b = m .before .before in
     let n = b .before .before in
     let t = n .before in
-    ((long (checked t), is (t .before .before)), (t .before .if2 .left, t .if3 .left))
+    let a = entry (checked t) .args in
+    let framely = sound-bare (a .h) (a .len .now) (a .packet .now) (is (t .before .before)) in
+    ((long (checked t), framely), (t .before .if2 .left, t .if3 .left))
 
 returns-6 : tie.Need-returns-6
 returns-6 c =

@@ -10,7 +10,7 @@ use Rattle.opus_defines.specs.declared.Refusal.the-variants.{BadArg}
 use Rattle.opus_toc.specs.Toc.{upperSix}
 use Rattle.opus_format.specs.Frames.{total}
 use Rattle.repacketizer.specs.Collector.{held}
-use Rattle.repacketizer.specs.Parts.{collectorOf}
+use Rattle.repacketizer.specs.Parts.{bare}
 use Rattle.repacketizer.proofs.Held.{Holding, holding}
 use Rattle.repacketizer_out.proofs.Ranges.{Part, part-of, part-from}
 use Rattle.repacketizer_out.proofs.Outputs.{meets, refused-as, frames-none, held-past, held-within}
@@ -21,8 +21,8 @@ use Rattle.repacketizer_out.proofs.out_frames.Tie as tie
 byte : (c : tie.Start) → c .args .h .toc < 256
 byte c = search needs
 
-holds : (c : tie.Start) → Holding (collectorOf (c .args .h) (c .args .len .now))
-holds c = holding (collectorOf (c .args .h) (c .args .len .now)) (byte c) (c .pre .0 .0) (c .pre .0 .1)
+holds : (c : tie.Start) → Holding (bare (c .args .h) (c .args .len .now))
+holds c = holding (bare (c .args .h) (c .args .len .now)) (byte c) (c .pre .0 .0) (c .pre .0 .1)
 
 abbrev entry : tie.After-wide → tie.Start
 entry c = c .before .before .before .before
@@ -31,7 +31,7 @@ returns : tie.Need-returns
 returns c =
     let a = entry (c .before) .args in
     refused-as BadArg
-    (frames-none (a .self-delimited) (a .pad) (upperSix (a .h .toc)) (held (collectorOf (a .h) (a .len .now)) (a .store .now)) (a .«data» .now)
+    (frames-none (a .self-delimited) (a .pad) (upperSix (a .h .toc)) (held (bare (a .h) (a .len .now)) (a .store .now)) (a .«data» .now)
     (a .begin) (a .end) (c .if1 .taken))
 
 returns-2 : tie.Need-returns-2
@@ -40,17 +40,17 @@ returns-2 c =
     let s = entry w in
     let a = s .args in
     refused-as BadArg
-    (held-past (a .self-delimited) (a .pad) (collectorOf (a .h) (a .len .now)) (a .store .now) (a .«data» .now) (holds s) (a .begin) (a .end)
+    (held-past (a .self-delimited) (a .pad) (bare (a .h) (a .len .now)) (a .store .now) (a .«data» .now) (holds s) (a .begin) (a .end)
     (c .before .if1 .left) (omega (arith, w .wide .ensures .0)))
 
 -- the range is within the frames held
 within : (c : tie.Else2) → let a = entry (c .before .before) .args in a .end ≤ a .h .«nb_frames»
 within c = omega (arith, c .before .before .wide .ensures .0)
 
-part : (c : tie.Else2) → let a = entry (c .before .before) .args in Part (collectorOf (a .h) (a .len .now)) (a .begin) (a .end)
+part : (c : tie.Else2) → let a = entry (c .before .before) .args in Part (bare (a .h) (a .len .now)) (a .begin) (a .end)
 part c =
     let s = entry (c .before .before) in
-    part-of (collectorOf (s .args .h) (s .args .len .now)) (holds s) (s .args .begin) (s .args .end) (c .before .if1 .left) (within c)
+    part-of (bare (s .args .h) (s .args .len .now)) (holds s) (s .args .begin) (s .args .end) (c .before .if1 .left) (within c)
 
 slice-aggregate-measure : tie.Need-slice-aggregate-measure
 slice-aggregate-measure c =
@@ -86,7 +86,7 @@ returns-3 c =
     let s = entry (i .before .before) in
     let a = s .args in
     meets
-    (held-within (a .self-delimited) (a .pad) (collectorOf (a .h) (a .len .now)) (a .store .now) (a .«data» .now) (holds s) (a .begin) (a .end)
+    (held-within (a .self-delimited) (a .pad) (bare (a .h) (a .len .now)) (a .store .now) (a .«data» .now) (holds s) (a .begin) (a .end)
     (i .before .if1 .left) (within i) (from w))
     (f .put-frames .ensures .0) (f .put-frames .ensures .1)
 

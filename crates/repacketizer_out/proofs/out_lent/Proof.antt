@@ -16,7 +16,7 @@ returns c =
     let s = e .before .before .before .before in
     let a = s .args in
     let back : toZ w32 (ofZ w32 (c .number-of .result)) ≡ c .number-of .result = search needs in
-    let rp = collectorOf (a .h) (a .len .now) in
+    let rp = collectorOf (a .h) (a .len .now) (a .packet .now) in
     let passed = out-passed (a .self-delimited) (a .pad) rp (a .store .now) (a .begin) (a .end) (a .«data» .now) (s .fits .begin) (s .fits .end) in
     let o = meets passed (r .ensures .0) (r .ensures .1) in
     (back ∙ (c .number-of .ensures ∙ o .0), o .1)
