@@ -1,4 +1,5 @@
 pub mod Records
 pub mod Lent
+pub mod LentTwo
 pub mod Heads
 pub mod Examples
