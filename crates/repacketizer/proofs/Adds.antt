@@ -16,7 +16,7 @@ use mathlib.Core.Bool.{Bool, true, false, not, cond}
 use lib.Dec.{ltb, leb, eqb}
 use lib.ListN.{length, getD}
 use lib.Seq.{sets}
-use borrow.Author.Tests.{eqb-true, eqb-false, lt-ltb, le-ltb, eq-eqb, ne-eqb, not-true, not-false}
+use borrow.Author.Tests.{eqb-true, eqb-false, ltb-false, lt-ltb, le-ltb, eq-eqb, ne-eqb, not-true, not-false}
 use Rattle.laws.specs.Bytes.{Bytes}
 use Rattle.laws.proofs.Never.{never, by-test}
 use Rattle.laws.proofs.Every.{both-right}
@@ -287,18 +287,20 @@ pub record Took (sd : Bool) (rp : OpusRepacketizer) (p : List ℕ) (toc : ℕ) (
   pub end : ℕ
   pub reads : read sd p ≡ accepted toc ns first end
   pub stays : staysOut rp p ≡ false
+  pub short : length p ≤ 65535
 
 pub took-packet : (sd : Bool) (rp : OpusRepacketizer) (p : List ℕ) (toc : ℕ) (ns : List ℕ) (first : ℕ) → packetAdds sd rp p ≡ takes toc ns first
     → Took sd rp p toc ns first
 took-packet sd rp p toc ns first e =
     by-test (ltb 65535 (length p)) (λ k. never (let q = rw k at e in cc))
-    (λ k. by-test (staysOut rp p) (λ o. never (let q = rw (k, o) at e in cc)) (λ o. go o (read sd p) refl (rw (k, o) at e)))
+    (λ k. by-test (staysOut rp p) (λ o. never (let q = rw (k, o) at e in cc))
+    (λ o. go (ltb-false 65535 (length p) k) o (read sd p) refl (rw (k, o) at e)))
   where
-    go : staysOut rp p ≡ false → (x : Reading) → read sd p ≡ x → readAdds x ≡ takes toc ns first → Took sd rp p toc ns first
-    go o (refused rule place) q e = never (cc)
-    go o (accepted toc′ ns′ first′ end) q e =
+    go : length p ≤ 65535 → staysOut rp p ≡ false → (x : Reading) → read sd p ≡ x → readAdds x ≡ takes toc ns first → Took sd rp p toc ns first
+    go k o (refused rule place) q e = never (cc)
+    go k o (accepted toc′ ns′ first′ end) q e =
         let same : accepted toc′ ns′ first′ end ≡ accepted toc ns first end = cc in
-        record { end = end; reads = q ∙ same; stays = o }
+        record { end = end; reads = q ∙ same; stays = o; short = k }
 
 pub took : (sd : Bool) (rp : OpusRepacketizer) (p : List ℕ) (room toc : ℕ) (ns : List ℕ) (first : ℕ) → adds sd rp p room ≡ takes toc ns first
     → Took sd rp p toc ns first

@@ -3,11 +3,11 @@
 --     numbered-more, numbered-below                one number more, as a loop goes over them; the i-th is below i
 --     Looked, looked-..                            what one pass over lengths and numbers has found of the first ones
 --     put-numbers, numbered-grown                  numbers stored behind others; the next one, so many times, behind sound ones is sound
---     after-zero, after-more, last-small           the number of the next packet
+--     after-zero, after-more, after-grown, last-small   the number of the next packet
 --     numbers-none, numbers-one, numbers-many      numbers stored, as the code does
 -- Assumes nothing.
 use Prim.Native.Nat.{ℕ, zero, suc, _+_, _*_, _-_, _%_, _≤_, _<_, max}
-use native.Mathlib.Nat.{mod-add-mod}
+use native.Mathlib.Nat.{zero-add, mod-add-mod}
 use native.Mathlib.Numerals.{add-one}
 use native.Mathlib.Omega.{arith}
 use mathlib.Core.Path.{_≡_, refl, sym, ap, _∙_}
@@ -15,7 +15,7 @@ use mathlib.Core.List.{List, [], _∷_, _++_}
 use mathlib.Core.Bool.{Bool, true, false, _&&_, _||_}
 use lib.Bits.{bitOr, or-lt, or-comm, or-add-and, and-le-r}
 use lib.Dec.{leb, eqb}
-use lib.ListN.{length, getD, take, set, replicate, length-set, length-replicate}
+use lib.ListN.{length, getD, take, set, replicate, length-set, length-replicate, getD-replicate}
 use lib.Seq.{sets, take-all, length-take-le, length-sets, getD-take}
 use borrow.Author.Tests.{leb-true, leb-false, le-leb, lt-leb, eqb-true, eqb-false, eq-eqb, ne-eqb}
 use Rattle.laws.proofs.Never.{never, by-test}
@@ -221,6 +221,23 @@ numbered-grown packet (suc n) count h s =
     let l : length (take (suc n) packet) ≡ suc n = length-take-le (suc n) packet (omega arith) in
     let last : getD (take (suc n) packet) (length (take (suc n) packet) - 1) 0 ≡ k = rw (l, e) (getD-take (suc n) packet n 0 (omega arith)) in
     rw (ne-eqb (suc n) 0 (λ z. omega arith), e) (numbered-next (take (suc n) packet) (omega (arith, l)) (k + 1) (rw last (goes-up k)) count s)
+
+-- the number behind them
+getD-behind : (a b : List ℕ) (i : ℕ) → getD (a ++ b) (length a + i) 0 ≡ getD b i 0
+getD-behind [] b i = rw zero-add
+getD-behind (x ∷ a) b i = let e : suc (length a) + i ≡ suc (length a + i) = omega arith in rw e (getD-behind a b i)
+
+pub after-grown : (packet : List ℕ) (n count k : ℕ) → 1 ≤ count → n + count ≤ length packet
+    → numberAfter (sets packet n (replicate count k)) (n + count) ≡ k + 1
+after-grown packet n count k some h =
+    let l = sets packet n (replicate count k) in
+    let m = length-take-le n packet (omega arith) in
+    let last : n + count - 1 ≡ length (take n packet) + (count - 1) = omega (arith, m) in
+    let read = getD-take (n + count) l (n + count - 1) 0 (omega arith) in
+    let is : getD l (n + count - 1) 0 ≡ k =
+    sym read ∙ (rw (put-numbers packet n count k h, last)
+    (getD-behind (take n packet) (replicate count k) (count - 1) ∙ getD-replicate count (count - 1) k 0 (omega arith))) in
+    rw (ne-eqb (n + count) 0 (λ z. omega arith), is)
 
 -- ---- the next number
 pub after-zero : (packet : List ℕ) (n : ℕ) → n ≡ 0 → 0 ≡ numberAfter packet n

@@ -22,14 +22,14 @@ use Rattle.opus_format.specs.Frames.{total}
 use Rattle.opus_format.specs.Reading.{refused, accepted, read}
 use Rattle.opus.specs.Named.{Named}
 use Rattle.repacketizer.specs.declared.OpusRepacketizer.{OpusRepacketizer}
-use Rattle.repacketizer.specs.Collector.{heldLengths, held, leastStore, sound}
+use Rattle.repacketizer.specs.Collector.{heldLengths, heldNumbers, held, leastStore, sound}
 use Rattle.repacketizer.specs.Adding.{goesWith, staysOut, adds, added, addedReport, addedNumber}
-use Rattle.repacketizer.specs.Runs.{State, Ready, Empty, Arrival, AllBytes, SameSix, afterAdds, framesAccepted}
+use Rattle.repacketizer.specs.Runs.{State, Ready, Empty, Arrival, AllBytes, SameSix, afterAdds, framesAccepted, acceptedOf, blocks, framesOfAll}
 use Rattle.repacketizer.proofs.Adds.{block-refused, block-added, add-empty, refused-keeps}
 use Rattle.repacketizer.proofs.Naming.{add-named}
 use Rattle.repacketizer.proofs.Adds.{add-out, add-unsound, add-tight, add-sound, add-long, add-refused, add-read}
 use Rattle.repacketizer.proofs.Kept.{add-took, first-sets, later-keeps, lengths-stay, bytes-stay}
-use Rattle.repacketizer.proofs.Runs.{empty-ready, empty-held, runs-ready, runs-held, runs-six}
+use Rattle.repacketizer.proofs.Runs.{empty-ready, empty-held, runs-ready, runs-held, runs-six, runs-numbers, accepted-frames}
 
 -- 1. From any collector that holds nothing, after any list of adds, each in its own form and refused ones included, the collector is sound and
 -- its store long enough; the frames held are those of the accepted packets, in order,
@@ -136,3 +136,12 @@ add-names = add-named
 pub apart-names-nothing : (sd : Bool) (rp : OpusRepacketizer) (p store : List ℕ) → sound rp ≡ true → leastStore ≤ length store → length p ≤ 65535
     → staysOut rp p ≡ true → addedReport (added sd rp p store .answer) ≡ plain (negsuc 3)
 apart-names-nothing sd rp p store soundly roomy short out = rw (add-out sd rp p store soundly roomy short out)
+
+-- M-107. From any collector that holds nothing, whatever stood in its fields, after any list of adds: the numbers of the frames held are 0 to n - 1, a
+-- block for each accepted packet with as many as it has frames, and a refused packet uses up none.
+pub numbers-are-blocks : (s : State) → Empty s → (l : List Arrival) → AllBytes l → heldNumbers (afterAdds s l .rp) ≡ blocks 0 (acceptedOf s l)
+numbers-are-blocks s e l b = runs-numbers s l (empty-ready s e) b ∙ rw (e .none)
+
+pub frames-of-the-accepted : (s : State) → Empty s → (l : List Arrival) → AllBytes l
+    → held (afterAdds s l .rp) (afterAdds s l .store) ≡ framesOfAll (acceptedOf s l)
+frames-of-the-accepted s e l b = frames-are-kept s e l b ∙ accepted-frames s l

@@ -1,40 +1,44 @@
 -- One add.
 --     add-ready     the collector stays sound
 --     add-held      what it holds grows by the frames of an accepted packet
+--     add-read      an accepted packet has been read
+--     add-numbers   the new frames get the next number
 --     add-bytes     the store stays bytes
 --     add-six       the upper six TOC bits of what is accepted are those of what is held
 -- Assumes nothing.
-use mathlib.Core.Path.{_≡_, sym, _∙_, refl, subst}
+use mathlib.Core.Path.{_≡_, sym, _∙_, refl, ap, subst}
 use mathlib.Core.List.{List, _++_, append-nil}
 use mathlib.Core.Bool.{Bool, true}
 use Prim.Native.Nat.{ℕ, _+_, _*_, _≤_, _<_}
 use native.Mathlib.Omega.{arith}
 use lib.Dec.{leb, eqb}
-use lib.ListN.{length, getD, drop, replicate}
+use lib.ListN.{length, getD, drop, replicate, length-drop, length-map}
 use lib.Seq.{length-sets}
 use Rattle.laws.specs.Bytes.{Bytes}
 use borrow.Author.Tests.{eqb-true, eqb-false, ne-eqb}
 use Rattle.laws.proofs.Never.{never, by-test, cond-elim}
 use Rattle.laws.proofs.Every.{both-left}
 use Rattle.laws.proofs.Bytes.{bytes-take, bytes-drop, bytes-sets}
-use Rattle.opus_defines.specs.declared.Verdict.the-variants.{Accepted}
+use Rattle.opus_defines.specs.declared.Refusal.{Refusal}
+use Rattle.opus_defines.specs.declared.Verdict.the-variants.{Accepted, Refused}
 use Rattle.opus_size.specs.Size.{mostBytes}
-use Rattle.opus_format.specs.Frames.{total, longest}
+use Rattle.opus_format.specs.Frames.{cut, total, longest}
 use Rattle.opus_format.specs.Reading.{accepted, read, framesOf}
 use Rattle.opus_toc.specs.Toc.{upperSix}
+use Rattle.opus_format.proofs.Frames.{lengths-cut}
 use Rattle.opus_format.proofs.Sound.{read-spelled}
 use Rattle.opus_format.proofs.Facts.{Facts, facts}
 use Rattle.blocks.specs.Blocks.{part}
 use Rattle.repacketizer.specs.Collector.{held, heldLengths, heldNumbers, framed}
 use Rattle.repacketizer.specs.Adding.{Adding, goesWith, numberAfter, withFrames, Addition, refusal, takes, leavesAdd, addsBy}
 use Rattle.repacketizer.specs.declared.OpusRepacketizer.{OpusRepacketizer}
-use Rattle.repacketizer.specs.Runs.{State, Ready, Arrival, adding, afterAdd, framesIf, framesAdded}
+use Rattle.repacketizer.specs.Runs.{State, Ready, Arrival, adding, afterAdd, framesIf, framesIn, framesAdded}
 use Rattle.opus_format.proofs.Lengths.{longest-append}
 use Rattle.repacketizer.proofs.Lengths.{take-sets-at, cut-copied}
 use Rattle.repacketizer.proofs.Sound.{full-framed, sound-framed, sound-numbered, both-sound}
-use Rattle.repacketizer.proofs.Numbering.{put-numbers, numbered-grown}
+use Rattle.repacketizer.proofs.Numbering.{put-numbers, numbered-grown, after-grown}
 use Rattle.repacketizer.proofs.Held.{Holding, holding}
-use Rattle.repacketizer.proofs.Adds.{with-few, with-timed, with-room, taken, took-goes}
+use Rattle.repacketizer.proofs.Adds.{with-few, with-timed, with-room, taken, Took, took-goes}
 use Rattle.repacketizer.proofs.StrictAdds.{by-adds, took-by}
 
 -- the collector and the store that an add leaves
@@ -70,6 +74,14 @@ module _ (sd : Bool) (s : State) (p : List ℕ) (r : Ready s) (b : Bytes p) (toc
 
   room : total (heldLengths (s .rp)) + total ns ≤ length (s .store)
   room = omega (arith, with-room (s .rp) toc ns framely g (r .byte) (r .lengths48) (read-facts .few) (read-facts .small), r .roomy)
+
+  taken-numbers : let rp = withFrames (s .rp) toc ns in
+      (heldNumbers rp ≡ heldNumbers (s .rp) ++ replicate (length ns) (numberAfter (s .rp .packet) (s .rp .«nb_frames»)))
+      × (numberAfter (rp .packet) (rp .«nb_frames») ≡ numberAfter (s .rp .packet) (s .rp .«nb_frames») + 1)
+  taken-numbers = (
+    renumbered,
+    after-grown (s .rp .packet) (s .rp .«nb_frames») (length ns) _ (read-facts .some) (omega (arith, few, r .numbers48)),
+  )
 
   taken-ready : Ready (stateOf (taken (s .rp) toc ns p first (s .store)))
   taken-ready =
@@ -157,4 +169,44 @@ add-six s a b = subst (Six s a) (sym (adding-is s a)) (go (additionOf s a) refl)
               (λ e. (rw (e, ← first-is), omega (arith, some)))
               (λ e. (rw (e, ← first-is) (same-six (s .rp) toc (length ns) (eqb-false (s .rp .«nb_frames») 0 e) (took-goes b t)), omega (arith, some)));
           stays = λ z. (rw (ne-eqb (s .rp .«nb_frames») 0 (λ m. omega (arith, z, m))), omega (arith, some));
+        }
+
+-- ---- an accepted packet has been read
+pub record Reads (s : State) (a : Arrival) : Type 0 where
+  pub toc : ℕ
+  pub ns : List ℕ
+  pub first : ℕ
+  pub taken : Took (a .sd) (s .rp) (a .packet) toc ns first
+
+pub add-read : (s : State) (a : Arrival) → adding s a .answer .verdict ≡ Accepted → Reads s a
+add-read s a v = go (additionOf s a) refl (rw (← adding-is s a) v)
+  where
+    go : (x : Addition) → additionOf s a ≡ x → leavesAdd (s .rp) (a .packet) (s .store) x .answer .verdict ≡ Accepted → Reads s a
+    go (refusal e) h v = never (cc)
+    go (takes toc ns first) h v =
+        record { toc = toc; ns = ns; first = first; taken = took-by (a .strict) (a .sd) (s .rp) (a .packet) (length (s .store)) toc ns first h }
+
+-- ---- the numbers: an accepted packet's frames get the next one, and it goes up by one
+abbrev pub next : OpusRepacketizer → ℕ
+next rp = numberAfter (rp .packet) (rp .«nb_frames»)
+
+pub record Numbers (s : State) (a : Arrival) (x : Adding) : Type 0 where
+  pub is : x .answer .verdict ≡ Accepted
+      → (heldNumbers (x .answer .rp) ≡ heldNumbers (s .rp) ++ replicate (length (framesIn a)) (next (s .rp))) × (next (x .answer .rp) ≡ next (s .rp) + 1)
+  pub stays : {e : Refusal} → x .answer .verdict ≡ Refused e → x .answer .rp ≡ s .rp
+
+pub add-numbers : (s : State) (a : Arrival) → Ready s → Bytes (a .packet) → Numbers s a (adding s a)
+unfolding framesOf
+add-numbers s a r b = subst (Numbers s a) (sym (adding-is s a)) (go (additionOf s a) refl)
+  where
+    go : (x : Addition) → additionOf s a ≡ x → Numbers s a (leavesAdd (s .rp) (a .packet) (s .store) x)
+    go (refusal e) h = record { is = λ v. never (cc); stays = λ v. refl }
+    go (takes toc ns first) h =
+        let t = took-by (a .strict) (a .sd) (s .rp) (a .packet) (length (s .store)) toc ns first h in
+        let f = facts (a .sd) (a .packet) toc ns first (t .end) b (t .reads) in
+        let lens = lengths-cut ns (drop first (a .packet)) (omega (arith, f .block, f .within, length-drop first (a .packet))) in
+        let count : length (cut ns (drop first (a .packet))) ≡ length ns = sym (length-map (cut ns (drop first (a .packet))) length) ∙ ap length lens in
+        record {
+          is = λ v. rw (t .reads, count) (taken-numbers (a .sd) s (a .packet) r b toc ns first (t .end) (t .reads) (took-goes b t));
+          stays = λ v. never (cc);
         }

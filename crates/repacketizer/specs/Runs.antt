@@ -1,9 +1,9 @@
 -- Sequences of adds, refused ones included, as demand 3 speaks of them.
-use Prim.Native.Nat.{ℕ, _≤_, _<_}
+use Prim.Native.Nat.{ℕ, _+_, _≤_, _<_}
 use mathlib.Core.Path.{_≡_}
 use mathlib.Core.List.{List, [], _∷_, _++_}
 use mathlib.Core.Bool.{Bool, true, false}
-use lib.ListN.{length, getD}
+use lib.ListN.{length, getD, replicate}
 use Rattle.laws.specs.Bytes.{Bytes}
 use Rattle.opus_defines.specs.declared.Verdict.{Verdict}
 use Rattle.opus_defines.specs.declared.Verdict.the-variants.{Accepted, Refused}
@@ -68,12 +68,36 @@ abbrev pub framesIf : Verdict → List (List ℕ) → List (List ℕ)
 framesIf Accepted frames = frames
 framesIf (Refused e) frames = []
 
+-- the frames of a packet
+abbrev pub framesIn : Arrival → List (List ℕ)
+framesIn a = framesOf (a .packet) (read (a .sd) (a .packet))
+
 abbrev pub framesAdded : State → Arrival → List (List ℕ)
-framesAdded s a = framesIf (adding s a .answer .verdict) (framesOf (a .packet) (read (a .sd) (a .packet)))
+framesAdded s a = framesIf (adding s a .answer .verdict) (framesIn a)
 
 abbrev pub framesAccepted : State → List Arrival → List (List ℕ)
 framesAccepted s [] = []
 framesAccepted s (a ∷ more) = framesAdded s a ++ framesAccepted (afterAdd s a) more
+
+-- ---- who brought a frame (document 02, M-107)
+-- the accepted packets, in order
+abbrev pub acceptedIf : Verdict → Arrival → List Arrival
+acceptedIf Accepted a = a ∷ []
+acceptedIf (Refused e) a = []
+
+abbrev pub acceptedOf : State → List Arrival → List Arrival
+acceptedOf s [] = []
+acceptedOf s (a ∷ more) = acceptedIf (adding s a .answer .verdict) a ++ acceptedOf (afterAdd s a) more
+
+-- the numbers of the frames of these packets, of which the first has number k: a block for each packet
+abbrev pub blocks : ℕ → List Arrival → List ℕ
+blocks k [] = []
+blocks k (a ∷ more) = replicate (length (framesIn a)) k ++ blocks (k + 1) more
+
+-- and their frames, in order
+abbrev pub framesOfAll : List Arrival → List (List ℕ)
+framesOfAll [] = []
+framesOfAll (a ∷ more) = framesIn a ++ framesOfAll more
 
 -- every add is accepted
 abbrev pub AllAccepted : State → List Arrival → Type 0

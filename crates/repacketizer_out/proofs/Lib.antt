@@ -1,7 +1,9 @@
 pub mod Ranges
 pub mod Outputs
 pub mod Numbered
+pub mod Brought
 pub mod Put
 pub mod Packets
 pub mod Again
 pub mod Promises
+pub mod NumberPromises

@@ -161,7 +161,7 @@ brought-high k (n ∷ ks) (f ∷ frames) h s =
     rw (ne-eqb n k (λ e. omega arith)) (brought-past k n ks frames (omega arith) (both-right (eqb n 0) (steps n ks) s))
 
 -- ---- the output
-some-output : (six : ℕ) (x : List (List ℕ)) (room : ℕ) → 1 ≤ length x → outputSome six x room ≡ output false false six x room
+pub some-output : (six : ℕ) (x : List (List ℕ)) (room : ℕ) → 1 ≤ length x → outputSome six x room ≡ output false false six x room
 some-output six [] room h = absurd (omega arith)
 some-output six (f ∷ x) room h = refl
 

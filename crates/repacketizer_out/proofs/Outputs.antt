@@ -156,6 +156,13 @@ module _ (sd pad : Bool) (six : ℕ) (frames : List (List ℕ)) (dst : List ℕ)
     λ h. rw (output-refused h),
   )
 
+  -- never by -1
+  pub output-not-1 : leaves dst (output sd pad six frames (length dst)) .report .number ≡ negsuc 0 → ⊥
+  output-not-1 e =
+      by-test (ltb (length dst) (length (compact sd six frames)))
+      (λ t. never (let f = rw (output-refused (ltb-true (length dst) (length (compact sd six frames)) t)) at e in cc))
+      (λ t. never (let f = rw (output-written (ltb-false (length dst) (length (compact sd six frames)) t)) at e in cc))
+
 -- padded output fills the destination
 pub output-fills : (sd : Bool) (six : ℕ) (frames : List (List ℕ)) (dst : List ℕ) → length (compact sd six frames) ≤ length dst
     → (leaves dst (output sd true six frames (length dst)) .bytes ≡ filling sd six frames (length dst))
