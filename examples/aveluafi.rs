@@ -8,7 +8,7 @@ use std::fmt;
 use std::ops::Range;
 
 /// The header's AVELUAFI_VERSION: the archive that is linked must answer the same (`version`).
-pub const VERSION: i32 = 2;
+pub const VERSION: i32 = 3;
 
 pub const MOST_FRAMES: usize = 48;
 pub const LEAST_STORE: usize = 61200;
@@ -99,6 +99,7 @@ struct Repacketizer {
     nb_frames: u16,
     framesize: u16,
     len: [u16; MOST_FRAMES],
+    packet: [u8; MOST_FRAMES],
 }
 
 /// A packet that was read.
@@ -138,6 +139,14 @@ extern "C" {
         store_len: usize,
         begin: i32,
         end: i32,
+        data: *mut u8,
+        data_len: usize,
+    ) -> i32;
+    fn aveluafi_repacketizer_out_packet(
+        rp: *const Repacketizer,
+        store: *const u8,
+        store_len: usize,
+        number: i32,
         data: *mut u8,
         data_len: usize,
     ) -> i32;
@@ -188,7 +197,7 @@ pub struct Collector<'a> {
 
 impl<'a> Collector<'a> {
     pub fn new(store: &'a mut [u8; LEAST_STORE]) -> Self {
-        let mut rp = Repacketizer { toc: 0, nb_frames: 0, framesize: 0, len: [0; MOST_FRAMES] };
+        let mut rp = Repacketizer { toc: 0, nb_frames: 0, framesize: 0, len: [0; MOST_FRAMES], packet: [0; MOST_FRAMES] };
         unsafe { aveluafi_repacketizer_init(&mut rp) };
         Collector { rp, store }
     }
@@ -215,6 +224,11 @@ impl<'a> Collector<'a> {
         let (store, n) = (self.store.as_ptr(), self.store.len());
         let (begin, end) = (length(frames.start), length(frames.end));
         answer(unsafe { aveluafi_repacketizer_out_range(&self.rp, store, n, begin, end, data.as_mut_ptr(), data.len()) })
+    }
+    /// The frames that came in one accepted packet, the first of which since the collector was last empty has number 0: what unpadding it would have left.
+    pub fn write_packet(&self, number: usize, data: &mut [u8]) -> Result<usize, Refusal> {
+        let (store, n) = (self.store.as_ptr(), self.store.len());
+        answer(unsafe { aveluafi_repacketizer_out_packet(&self.rp, store, n, length(number), data.as_mut_ptr(), data.len()) })
     }
 }
 

@@ -1,5 +1,5 @@
-/* Packs three packets into one, sees three others refused, pads and strips the packet in place, reads its frames back and cuts one out again, over
- * include/aveluafi.h. examples/run builds and runs it; pack.rs does the same in Rust and prints the same text. */
+/* Packs three packets into one, sees three others refused, pads and strips the packet in place, reads its frames back, cuts one out again and restores one
+ * of the packets, over include/aveluafi.h. examples/run builds and runs it; pack.rs does the same in Rust and prints the same text. */
 #include "aveluafi.h"
 
 #include <stdio.h>
@@ -104,5 +104,10 @@ int main(void) {
     /* Any range of the frames held can be written, again and again; here the second alone. */
     int32_t cut = need("out_range", aveluafi_repacketizer_out_range(&rp, store, sizeof store, 1, 2, buffer, sizeof buffer));
     printf("cut frame 1 out: a packet of %d bytes, %s\n", (int)cut, same(buffer, packets[1], (size_t)cut));
+
+    /* Or the packets that were added, by their numbers: the refused ones have none, so the third that was accepted is number 2. */
+    int32_t third = need("out_packet", aveluafi_repacketizer_out_packet(&rp, store, sizeof store, 2, buffer, sizeof buffer));
+    printf("restored packet 2: %d bytes, %s\n", (int)third, same(buffer, packets[2], (size_t)third));
+    printf("refused packet 3: %d\n", (int)aveluafi_repacketizer_out_packet(&rp, store, sizeof store, 3, buffer, sizeof buffer));
     return 0;
 }

@@ -1,5 +1,5 @@
-//! Packs three packets into one, sees three others refused, pads and strips the packet in place, reads its frames back and cuts one out again,
-//! through the safe wrapper in aveluafi.rs. examples/run builds and runs it; pack.c does the same in C and prints the same text.
+//! Packs three packets into one, sees three others refused, pads and strips the packet in place, reads its frames back, cuts one out again and restores
+//! one of the packets, through the safe wrapper in aveluafi.rs. examples/run builds and runs it; pack.c does the same in C and prints the same text.
 
 #[allow(dead_code)]
 mod aveluafi;
@@ -80,5 +80,12 @@ fn main() -> Result<(), Refusal> {
     // Any range of the frames held can be written, again and again; here the second alone.
     let cut = collector.write_range(1..2, &mut buffer)?;
     println!("cut frame 1 out: a packet of {} bytes, {}", cut, same(buffer.get(..cut), &packets[1]));
+
+    // Or the packets that were added, by their numbers: the refused ones have none, so the third that was accepted is number 2.
+    let third = collector.write_packet(2, &mut buffer)?;
+    println!("restored packet 2: {} bytes, {}", third, same(buffer.get(..third), &packets[2]));
+    if let Err(refusal) = collector.write_packet(3, &mut buffer) {
+        println!("refused packet 3: {}", refusal.number());
+    }
     Ok(())
 }

@@ -33,11 +33,12 @@ extern "C" {
  * nothing that it answers can be relied on. The number is raised whenever a declaration here changes. A call that is added raises nothing: an archive
  * without it does not link.
  *
+ * 3: struct aveluafi_repacketizer has the field packet and is 150 bytes long, 48 more than before: whoever lends one must be compiled again.
  * 2: a refusal names the rule of RFC 6716 and the byte. aveluafi_repacketizer_cat, pad, unpad and their multistream kin answer a struct aveluafi_report
  *    in the place of a number; struct aveluafi_packet and struct aveluafi_size have rule and place, in another order; aveluafi_parse_size is told a rule.
  * 1: the first. */
 
-#define AVELUAFI_VERSION 2
+#define AVELUAFI_VERSION 3
 
 int32_t aveluafi_version(void);
 
@@ -45,7 +46,7 @@ int32_t aveluafi_version(void);
 
 #define AVELUAFI_OK 0                 /* added, padded, nothing to pad */
 #define AVELUAFI_BAD_ARG (-1)         /* an argument outside its bound; an empty packet for samples, frame count, pad or unpad; a range that is not
-                                         0 <= begin < end <= frames held; a store under 61,200 bytes; a start past a capture's end */
+                                         0 <= begin < end <= frames held; a packet number not held; a store under 61,200 bytes; a start past a capture's end */
 #define AVELUAFI_BUFFER_TOO_SMALL (-2) /* the output is longer than the destination */
 #define AVELUAFI_INVALID_PACKET (-4)  /* the packet breaks a rule of RFC 6716; its upper six TOC bits are not those held; over 120 ms held */
 #define AVELUAFI_INVALID_STATE (-6)   /* the collector was not made by these calls, or was written over */

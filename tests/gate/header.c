@@ -111,7 +111,7 @@ static void collecting(void) {
     for (size_t i = 0; i < sizeof rp; i++)
         bytes[i] = 0xA5;
     aveluafi_repacketizer_init(&rp);
-    is("repacketizer empty is zeros", rp.toc == 0 && rp.nb_frames == 0 && rp.framesize == 0 && zeros(rp.len, 0), 1);
+    is("repacketizer empty is zeros", rp.toc == 0 && rp.nb_frames == 0 && rp.framesize == 0 && zeros(rp.len, 0) && rp.packet[0] == 0 && rp.packet[47] == 0, 1);
     reports("repacketizer_cat", aveluafi_repacketizer_cat(&rp, packet, sizeof packet, store, sizeof store), AVELUAFI_OK, 0, 0);
     is("repacketizer.toc", rp.toc, 0x0B);
     is("repacketizer.nb_frames", rp.nb_frames, 3);
@@ -134,6 +134,14 @@ static void collecting(void) {
     static const uint8_t clean[] = {0x0B, 0x41, 1, 10, 0};
     reports("repacketizer_cat_strict", aveluafi_repacketizer_cat_strict(&rp, clean, sizeof clean, store, sizeof store), AVELUAFI_OK, 0, 0);
     is("repacketizer_cat_strict holds", rp.nb_frames, 4);
+    is("repacketizer.packet", rp.packet[0] == 0 && rp.packet[2] == 0 && rp.packet[3] == 1 && rp.packet[4] == 0, 1);
+    is("repacketizer size", sizeof rp, 150);
+    is("repacketizer_out_packet", aveluafi_repacketizer_out_packet(&rp, store, sizeof store, 1, out, sizeof out), 2);
+    is("repacketizer_out_packet bytes", out[0] == 0x08 && out[1] == 10, 1);
+    is("repacketizer_out_packet room", aveluafi_repacketizer_out_packet(&rp, store, sizeof store, 0, out, 25), AVELUAFI_BUFFER_TOO_SMALL);
+    is("repacketizer_out_packet not held", aveluafi_repacketizer_out_packet(&rp, store, sizeof store, 2, out, 0), AVELUAFI_BAD_ARG);
+    rp.packet[3] = 2;
+    is("repacketizer unsound numbers", aveluafi_repacketizer_get_nb_frames(&rp), AVELUAFI_INVALID_STATE);
     rp.nb_frames = 49;
     is("repacketizer unsound", aveluafi_repacketizer_get_nb_frames(&rp), AVELUAFI_INVALID_STATE);
 }
@@ -186,6 +194,8 @@ static void nothing(void) {
     is("NULL repacketizer_out", aveluafi_repacketizer_out(&rp, store, sizeof store, NULL, 0), AVELUAFI_BUFFER_TOO_SMALL);
     is("NULL repacketizer_out store", aveluafi_repacketizer_out(&rp, NULL, 0, out, sizeof out), AVELUAFI_BAD_ARG);
     is("NULL repacketizer_out_range", aveluafi_repacketizer_out_range(&rp, store, sizeof store, 0, 1, NULL, 0), AVELUAFI_BUFFER_TOO_SMALL);
+    is("NULL repacketizer_out_packet", aveluafi_repacketizer_out_packet(&rp, store, sizeof store, 0, NULL, 0), AVELUAFI_BUFFER_TOO_SMALL);
+    is("NULL repacketizer_out_packet store", aveluafi_repacketizer_out_packet(&rp, NULL, 0, 0, out, sizeof out), AVELUAFI_BAD_ARG);
     is("NULL repacketizer_out_range_impl", aveluafi_repacketizer_out_range_impl(&rp, store, sizeof store, 0, 1, NULL, 0, true, true),
        AVELUAFI_BUFFER_TOO_SMALL);
     is("NULL packet_pad", aveluafi_packet_pad(NULL, 0, 1, 2).number, AVELUAFI_BAD_ARG);

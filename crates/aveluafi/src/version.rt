@@ -8,5 +8,5 @@ ghost use Rattle.aveluafi.specs.Version.{version};
 pub extern "C" fn aveluafi_version() -> i32
     ensures { λ r. ⌜ r ≡ pos version ⌝ }
 {
-    2
+    3
 }
