@@ -16,11 +16,12 @@ use Rattle.opus_size.specs.Size.{mostBytes}
 use Rattle.opus_toc.specs.Toc.{configuration, samples}
 use Rattle.opus_format.specs.Frames.{total, longest}
 use Rattle.opus_format.proofs.Counts.{lasts-few}
+use Rattle.packet_numbers.specs.Numbers.{numbered, keptWell}
 use Rattle.repacketizer.specs.declared.OpusRepacketizer.{OpusRepacketizer}
 use Rattle.repacketizer.specs.declared.Head.{Head}
 use Rattle.repacketizer.specs.declared.Checked.{Checked}
-use Rattle.repacketizer.specs.Collector.{heldLengths, numbered, sound}
-use Rattle.repacketizer.specs.Parts.{headOf, collectorOf, unsoundly, keptWell, checkedHeld, checked}
+use Rattle.repacketizer.specs.Collector.{heldLengths, sound}
+use Rattle.repacketizer.specs.Parts.{headOf, collectorOf, unsoundly, checkedHeld, checked}
 use Rattle.repacketizer.proofs.Counts.{sum-small}
 use Rattle.repacketizer.proofs.Sound.{timed-lasts, none-sound, wrong-size, wrong-time, right-time}
 

@@ -11,12 +11,13 @@ use lib.ListN.{length, replicate}
 use lib.Seq.{sets}
 use Rattle.laws.specs.Bytes.{Bytes}
 use Rattle.opus_format.proofs.Facts.{facts}
+use Rattle.packet_numbers.specs.Numbers.{numberAfter}
 use Rattle.repacketizer.specs.declared.OpusRepacketizer.{OpusRepacketizer}
 use Rattle.repacketizer.specs.declared.Added.{Added}
 use Rattle.repacketizer.specs.declared.Head.{Head}
 use Rattle.repacketizer.specs.declared.AddedHead.{AddedHead}
 use Rattle.repacketizer.specs.Collector.{framed}
-use Rattle.repacketizer.specs.Adding.{Adding, Addition, refusal, takes, numberAfter, leavesAdd}
+use Rattle.repacketizer.specs.Adding.{Adding, Addition, refusal, takes, leavesAdd}
 use Rattle.repacketizer.specs.Parts.{collectorOf, bare, packetAddsBy, addPacketBy, addedOf}
 use Rattle.repacketizer.proofs.Adds.{stays-lengths, with-few, head-few, took-goes}
 use Rattle.repacketizer.proofs.StrictAdds.{took-packet-by}

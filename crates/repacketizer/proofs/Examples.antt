@@ -14,7 +14,8 @@ use Rattle.opus_toc.specs.Toc.{duration, samples}
 use Rattle.opus_toc.specs.Answers.{nbFrames}
 use Rattle.opus_format.specs.Reading.{read}
 use Rattle.opus_format.specs.Dirt.{dirtyPacket}
-use Rattle.repacketizer.specs.Collector.{empty, framed, numbered, sound, nbFramesHeld}
+use Rattle.packet_numbers.specs.Numbers.{numbered}
+use Rattle.repacketizer.specs.Collector.{empty, framed, sound, nbFramesHeld}
 use Rattle.repacketizer.specs.Adding.{staysOut, added, addedStrictly, addedReport}
 use Rattle.repacketizer.specs.declared.OpusRepacketizer.{OpusRepacketizer}
 

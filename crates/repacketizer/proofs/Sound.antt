@@ -21,10 +21,11 @@ use Rattle.opus_toc.specs.Toc.{upperSix, configuration, duration, samples}
 use Rattle.opus_toc.proofs.Samples.{lasts-at}
 use Rattle.opus_format.specs.Frames.{longest}
 use Rattle.opus_format.specs.Format.{Lasts}
+use Rattle.packet_numbers.specs.Numbers.{numbered, keptWell}
 use Rattle.repacketizer.specs.declared.OpusRepacketizer.{OpusRepacketizer}
 use Rattle.repacketizer.specs.declared.Head.{Head}
-use Rattle.repacketizer.specs.Collector.{heldLengths, heldNumbers, framed, numbered, sound, nbFramesHeld}
-use Rattle.repacketizer.specs.Parts.{collectorOf, bare, keptWell}
+use Rattle.repacketizer.specs.Collector.{heldLengths, heldNumbers, framed, sound, nbFramesHeld}
+use Rattle.repacketizer.specs.Parts.{collectorOf, bare}
 
 -- `each` is the frame size of this TOC byte at 8 kHz, and so many frames last at most 120 ms
 pub record Timed (toc count each : ℕ) : Type 0 where

@@ -29,8 +29,9 @@ use Rattle.opus_format.proofs.Frames.{lengths-cut}
 use Rattle.opus_format.proofs.Sound.{read-spelled}
 use Rattle.opus_format.proofs.Facts.{Facts, facts}
 use Rattle.blocks.specs.Blocks.{part}
+use Rattle.packet_numbers.specs.Numbers.{numberAfter}
 use Rattle.repacketizer.specs.Collector.{held, heldLengths, heldNumbers, framed}
-use Rattle.repacketizer.specs.Adding.{Adding, goesWith, numberAfter, withFrames, Addition, refusal, takes, leavesAdd, addsBy}
+use Rattle.repacketizer.specs.Adding.{Adding, goesWith, withFrames, Addition, refusal, takes, leavesAdd, addsBy}
 use Rattle.repacketizer.specs.declared.OpusRepacketizer.{OpusRepacketizer}
 use Rattle.repacketizer.specs.Runs.{State, Ready, Arrival, adding, afterAdd, framesIf, framesIn, framesAdded}
 use Rattle.opus_format.proofs.Lengths.{longest-append}

@@ -1,11 +1,11 @@
 -- What an add answers, and what it leaves in the store (document 01, 'Collecting and writing'; the order of refusals under 'Return numbers';
 -- document 02, M-105 and M-107).
-use Prim.Native.Nat.{ℕ, _+_, _*_, _-_}
+use Prim.Native.Nat.{ℕ, _+_, _*_}
 use mathlib.Core.List.{List, [], _∷_}
 use mathlib.Core.Bool.{Bool, true, false, cond, _&&_, _||_}
 use lib.Dec.{ltb, leb, eqb}
 use lib.IntN.{ℤ}
-use lib.ListN.{length, getD, replicate}
+use lib.ListN.{length, replicate}
 use lib.Seq.{sets}
 use Rattle.opus_defines.specs.Bounds.{mostPacket}
 use Rattle.opus_defines.specs.Numbers.{verdictReport}
@@ -22,6 +22,7 @@ use Rattle.opus_format.specs.Frames.{total}
 use Rattle.opus_format.specs.Reading.{lasts, Reading, refused, accepted, read}
 use Rattle.opus_format.specs.Dirt.{dirtyPacket}
 use Rattle.blocks.specs.Blocks.{copied}
+use Rattle.packet_numbers.specs.Numbers.{numberAfter}
 use Rattle.repacketizer.specs.declared.OpusRepacketizer.{OpusRepacketizer}
 use Rattle.repacketizer.specs.declared.Added.{Added}
 use Rattle.repacketizer.specs.Collector.{heldLengths, leastStore, sound}
@@ -52,11 +53,7 @@ goesWith rp toc n =
     eqb (rp .«nb_frames») 0
     || (eqb (upperSix toc) (upperSix (rp .toc)) && leb ((rp .«nb_frames» + n) * rp .framesize .0) 960)
 
--- the number of the next accepted packet (document 02, M-107), behind n frames with these numbers: one more than that of the last
-abbrev pub numberAfter : List ℕ → ℕ → ℕ
-numberAfter numbers n = cond (eqb n 0) 0 (getD numbers (n - 1) 0 + 1)
-
--- the collector with frames of these lengths more, which came in one packet; the first packet sets the TOC byte
+-- the collector with frames of these lengths more, which came in one packet and get its number; the first packet sets the TOC byte
 abbrev pub withFrames : OpusRepacketizer → ℕ → List ℕ → OpusRepacketizer
 withFrames rp toc ns =
     record {

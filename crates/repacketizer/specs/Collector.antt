@@ -1,7 +1,7 @@
 -- The collector: what it holds, and when it is sound (document 01, 'Return numbers'; document 02, M-107).
-use Prim.Native.Nat.{ℕ, _+_, _*_}
-use mathlib.Core.List.{List, [], _∷_}
-use mathlib.Core.Bool.{Bool, true, cond, _&&_, _||_}
+use Prim.Native.Nat.{ℕ, _*_}
+use mathlib.Core.List.{List}
+use mathlib.Core.Bool.{Bool, cond, _&&_, _||_}
 use lib.Dec.{leb, eqb}
 use lib.ListN.{take, replicate}
 use Rattle.opus_defines.specs.declared.Answer.{Answer}
@@ -10,6 +10,7 @@ use Rattle.opus_defines.specs.declared.Refusal.the-variants.{InvalidState}
 use Rattle.opus_size.specs.Size.{mostBytes}
 use Rattle.opus_toc.specs.Toc.{configuration, samples}
 use Rattle.opus_format.specs.Frames.{cut, longest}
+use Rattle.packet_numbers.specs.Numbers.{numbered}
 use Rattle.repacketizer.specs.declared.OpusRepacketizer.{OpusRepacketizer}
 
 -- what init and reset make
@@ -39,17 +40,7 @@ framed rp =
     && (leb (rp .«nb_frames» * rp .framesize .0) 960
     && leb (longest (heldLengths rp)) mostBytes))
 
--- numbers that go on from k by 0 or 1
-abbrev pub steps : ℕ → List ℕ → Bool
-steps k [] = true
-steps k (n ∷ ns) = (eqb n k || eqb n (k + 1)) && steps n ns
-
--- and begin at 0
-unfoldable pub numbered : List ℕ → Bool
-numbered [] = true
-numbered (n ∷ ns) = eqb n 0 && steps n ns
-
--- what is behind the count is free, lengths and numbers
+-- and the numbers begin at 0 and go by 0 or 1; what is behind the count is free, lengths and numbers
 unfoldable pub sound : OpusRepacketizer → Bool
 sound rp = framed rp && numbered (heldNumbers rp)
 

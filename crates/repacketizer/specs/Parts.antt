@@ -1,5 +1,5 @@
 -- What the inner functions answer, where a collector's lengths and numbers are lent beside the rest of it.
-use Prim.Native.Nat.{ℕ, _+_, _-_, _%_}
+use Prim.Native.Nat.{ℕ, _+_, _%_}
 use mathlib.Core.List.{List, []}
 use mathlib.Core.Bool.{Bool, true, false, cond, _&&_}
 use lib.Dec.{leb, eqb}
@@ -8,17 +8,17 @@ use Rattle.opus_defines.specs.Bounds.{mostPacket}
 use Rattle.opus_defines.specs.declared.Refusal.{Refusal}
 use Rattle.opus_defines.specs.declared.Refusal.the-variants.{InvalidPacket, DirtyPadding}
 use Rattle.opus_defines.specs.declared.Verdict.the-variants.{Accepted, Refused}
-use Rattle.opus_size.specs.Size.{mostBytes}
 use Rattle.opus_toc.specs.Toc.{configuration, samples}
 use Rattle.opus_format.specs.Frames.{total, longest}
 use Rattle.opus_format.specs.Dirt.{dirtyPacket}
+use Rattle.packet_numbers.specs.Numbers.{keptWell}
 use Rattle.repacketizer.specs.declared.OpusRepacketizer.{OpusRepacketizer}
 use Rattle.repacketizer.specs.declared.Added.{Added}
 use Rattle.repacketizer.specs.declared.Measured.{Measured}
 use Rattle.repacketizer.specs.declared.Head.{Head}
 use Rattle.repacketizer.specs.declared.Checked.{Checked}
 use Rattle.repacketizer.specs.declared.AddedHead.{AddedHead}
-use Rattle.repacketizer.specs.Collector.{heldLengths, numbered, sound}
+use Rattle.repacketizer.specs.Collector.{heldLengths, sound}
 use Rattle.repacketizer.specs.Adding.{Adding, Addition, goesWith, staysOut, refusal, takes, leavesAdd, packetAdds, unlessDirty}
 
 -- one pass over lengths
@@ -37,20 +37,10 @@ collectorOf h len packet = record { toc = h .toc; «nb_frames» = h .«nb_frames
 abbrev pub bare : Head → List ℕ → OpusRepacketizer
 bare h len = collectorOf h len []
 
--- how far a length is above 1274, and a number above the one before it, modulo 256: each at most 1 where it is sound
-abbrev pub excess : ℕ → ℕ
-excess n = n - 1274
-
-abbrev pub jump : ℕ → ℕ → ℕ
-jump before k = (k + (256 - before)) % 256
-
 abbrev pub unsoundly : Checked
 unsoundly = record { sound = false; total = 0 }
 
 -- lengths and numbers of frames: whether a sound collector can have them, and the sum of the lengths
-abbrev pub keptWell : List ℕ → List ℕ → Bool
-keptWell ns ks = leb (longest ns) mostBytes && numbered ks
-
 abbrev pub checkedHeld : List ℕ → List ℕ → Checked
 checkedHeld ns ks = record { sound = keptWell ns ks; total = cond (keptWell ns ks) (total ns) 0 }
 

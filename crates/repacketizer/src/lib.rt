@@ -1,5 +1,4 @@
 // The collector, and adding packets to it (repacketizer.rs): by value, and as a head with its lengths and numbers lent.
-pub mod numbers;
 pub mod strict;
 
 ghost use mathlib.Core.Path.{_≡_};
@@ -126,7 +125,7 @@ fn check_held(ns: &[u16], ks: &[u8]) -> Checked
     requires { ⌜ (1 ≤ length (now ns)) × (length (now ns) ≤ 48) × (length (now ks) ≡ length (now ns)) ⌝ }
     ensures { λ r. ⌜ r ≡ checkedHeld (now (ns .entry)) (now (ks .entry)) ⌝ }
 {
-    let m = numbers::look(ns, ks);
+    let m = packet_numbers::look(ns, ks);
     if 1 < m.wrong {
         return unsound();
     }
@@ -517,7 +516,7 @@ fn add_numbered(
     ensures few { λ r. ⌜ r .count < 65536 ⌝ }
 {
     let a = add_by(h, len, at, data, self_delimited, strict, store);
-    numbers::put_numbers(packet, wide(h.nb_frames), a.count);
+    packet_numbers::put_numbers(packet, wide(h.nb_frames), a.count);
     a
 }
 

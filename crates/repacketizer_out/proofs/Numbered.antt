@@ -25,8 +25,9 @@ use Rattle.opus_defines.specs.Bounds.{mostPacket}
 use Rattle.opus_defines.specs.Numbers.{countOf}
 use Rattle.opus_defines.specs.declared.Count.the-variants.{Negative}
 use Rattle.opus_toc.specs.Toc.{upperSix}
+use Rattle.packet_numbers.specs.Numbers.{steps, numbered}
 use Rattle.repacketizer.specs.declared.OpusRepacketizer.{OpusRepacketizer}
-use Rattle.repacketizer.specs.Collector.{heldNumbers, held, leastStore, steps, numbered, sound}
+use Rattle.repacketizer.specs.Collector.{heldNumbers, held, leastStore, sound}
 use Rattle.repacketizer.proofs.Sound.{sound-framed, sound-numbered}
 use Rattle.repacketizer.proofs.Held.{holding}
 use Rattle.repacketizer_out.specs.declared.by_number.Range.{Range}

@@ -9,10 +9,10 @@ use lib.ListN.{length, replicate}
 use lib.Seq.{length-sets}
 use Rattle.laws.specs.Bytes.{Bytes}
 use Rattle.repacketizer.specs.Collector.{framed}
-use Rattle.repacketizer.specs.Adding.{numberAfter}
+use Rattle.packet_numbers.specs.Numbers.{numberAfter}
+use Rattle.packet_numbers.proofs.Numbering.{last-small}
 use Rattle.repacketizer.specs.Parts.{collectorOf, bare}
 use Rattle.repacketizer.proofs.Sound.{sound-bare, sound-numbered}
-use Rattle.repacketizer.proofs.Numbering.{last-small}
 use Rattle.repacketizer.proofs.Adds.{head-few}
 use Rattle.repacketizer.proofs.Dressed.{count-within, dressed}
 use Rattle.repacketizer.proofs.add_numbered.Statement.{statement}

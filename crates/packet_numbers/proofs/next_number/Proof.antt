@@ -1,10 +1,10 @@
--- `repacketizer::numbers::next_number` meets its contract.
+-- `packet_numbers::next_number` meets its contract.
 -- Assumes nothing.
 use native.Mathlib.Omega.{arith}
 use borrow.Author.Needs.{needs}
-use Rattle.repacketizer.proofs.Numbering.{after-zero, after-more}
-use Rattle.repacketizer.proofs.numbers.next_number.Statement.{statement}
-use Rattle.repacketizer.proofs.numbers.next_number.Tie as tie
+use Rattle.packet_numbers.proofs.Numbering.{after-zero, after-more}
+use Rattle.packet_numbers.proofs.next_number.Statement.{statement}
+use Rattle.packet_numbers.proofs.next_number.Tie as tie
 
 returns : tie.Need-returns
 returns c = after-zero (c .before .args .packet .now) (c .before .args .n) (c .if1 .taken)

@@ -5,8 +5,7 @@ ghost use lib.Dec.{leb};
 ghost use lib.ListN.{length, getD, replicate};
 ghost use lib.Seq.{sets};
 ghost use Rattle.opus_format.specs.Frames.{total};
-ghost use Rattle.repacketizer.specs.Adding.{numberAfter};
-ghost use Rattle.repacketizer.specs.Parts.{excess, jump, keptWell};
+ghost use Rattle.packet_numbers.specs.Numbers.{numberAfter, excess, jump, keptWell};
 
 // What one pass over lengths and numbers finds: the sum of the lengths modulo 65,536, and a number that is above 1 exactly where they are not those of a
 // sound collector.

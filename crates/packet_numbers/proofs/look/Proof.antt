@@ -1,12 +1,12 @@
--- `repacketizer::numbers::look` meets its contract. The invariant: what was found of the lengths and numbers passed.
+-- `packet_numbers::look` meets its contract. The invariant: what was found of the lengths and numbers passed.
 -- Assumes nothing.
 use Prim.Native.Nat.{_-_, _<_}
 use native.Mathlib.Omega.{arith}
 use borrow.Author.Needs.{needs}
 use lib.ListN.{length, getD}
-use Rattle.repacketizer.proofs.Numbering.{Looked, looked-first, looked-more, looked-all}
-use Rattle.repacketizer.proofs.numbers.look.Statement.{statement}
-use Rattle.repacketizer.proofs.numbers.look.Tie as tie
+use Rattle.packet_numbers.proofs.Numbering.{Looked, looked-first, looked-more, looked-all}
+use Rattle.packet_numbers.proofs.look.Statement.{statement}
+use Rattle.packet_numbers.proofs.look.Tie as tie
 
 abbrev Inv-loop : tie.InvT-loop
 Inv-loop ns ks sum₀ wrong₀ i₀ sum wrong i = Looked ns ks sum wrong i

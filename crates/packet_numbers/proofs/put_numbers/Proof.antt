@@ -1,13 +1,13 @@
--- `repacketizer::numbers::put_numbers` meets its contract: by how many places there are.
+-- `packet_numbers::put_numbers` meets its contract: by how many places there are.
 -- Assumes nothing.
 use mathlib.Core.Path.{_∙_}
 use native.Mathlib.Omega.{arith}
 use borrow.Author.Needs.{needs}
 use lib.ListN.{length-set}
-use Rattle.repacketizer.specs.Adding.{numberAfter}
-use Rattle.repacketizer.proofs.Numbering.{numbers-none, numbers-one, numbers-many, numbers-length, numbers-as}
-use Rattle.repacketizer.proofs.numbers.put_numbers.Statement.{statement}
-use Rattle.repacketizer.proofs.numbers.put_numbers.Tie as tie
+use Rattle.packet_numbers.specs.Numbers.{numberAfter}
+use Rattle.packet_numbers.proofs.Numbering.{numbers-none, numbers-one, numbers-many, numbers-length, numbers-as}
+use Rattle.packet_numbers.proofs.put_numbers.Statement.{statement}
+use Rattle.packet_numbers.proofs.put_numbers.Tie as tie
 
 abbrev entry : tie.After-next-number → tie.Start
 entry c = c .before .before .before .before
