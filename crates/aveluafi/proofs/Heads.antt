@@ -1,8 +1,9 @@
 -- A collector behind a reference: where its fields lie, and what whoever looks into it knows of them.
+--     lengths-ref, ..    the lengths, and the numbers of the packets, as they are lent
 --     to-toc, ..         the way from the collector's place to the field's
 --     in-toc, ..         the field's cell within the collector's, to be read or written
 --     toc-read, ..       a field is read through the local that holds the reference
---     lengths-at         the address of the lengths: nothing is read
+--     lengths-at, ..     the address of the lengths, and of the numbers: nothing is read
 --     toc-typed, ..      what was read is of the field's type
 --     head-is            the head that is read out of a collector has a head's values
 --     count-is, ..       a count of 16 bits is a number of 32 with a sign
@@ -17,7 +18,7 @@ use lib.IntN.{pos}
 use mir.Syntax.{Ty, w8, w16, w32, tyInt, tyArray, place, deref, field, copy, rvOpd, addrOf}
 use mir.Val.{Val, Vals, vint, vptr, vstruct, SFits, WT, hasTy}
 use mir.Fields.{getV, setV}
-use base.Fml.{Share, fat}
+use base.Fml.{GName, Share, fat}
 use prog.Wp.{Heap, Env}
 use ghost.Atoms.{Atoms}
 use types.Kit.{Given, Item, ‵}
@@ -25,6 +26,7 @@ use types.Run.{Walks, Rv, look, stop, hop, fld, from, load, addr, of-opd}
 use types.Part.{Part, whole, sub, look-in}
 use denote.Laws.{Is}
 use denote.Builtin.{i32}
+use denote.Ref.{RefT}
 use denote.Struct.Laws as LL
 use Rattle.opus_toc.proofs.Samples8k.Laws as S′
 use Rattle.repacketizer.specs.declared.OpusRepacketizer.{OpusRepacketizer}
@@ -44,6 +46,13 @@ parts = values T.the-type T′.the-laws
 
 abbrev pub head-vals : OpusRepacketizer → List Val
 head-vals h = LL.vals D.the-type D′.the-laws (headOf h)
+
+-- the lengths, and the numbers of the packets, lent under δ
+abbrev pub lengths-ref : ℕ → ℕ → OpusRepacketizer → GName → RefT (List ℕ)
+lengths-ref b o h δ = record { ptr = (b, o + 6); name = δ; now = h .len }
+
+abbrev pub packets-ref : ℕ → ℕ → OpusRepacketizer → GName → RefT (List ℕ)
+packets-ref b o h δ = record { ptr = (b, o + 102); name = δ; now = h .packet }
 
 -- the collector's cell
 abbrev cell : {M : Type 1} (𝓤 : URA M) → Share → ℕ → ℕ → Vals → Item 𝓤
@@ -66,6 +75,9 @@ module _ {M : Type 1} {𝓤 : URA M} {H : Heap 𝓤} {A : Atoms 𝓤} {K : Type 
     pub to-lengths : K → Walks K W Γ E (T′.mir, b, o) (field 3 ∷ []) (tyArray (tyInt w16) 48, b, o + 6)
     to-lengths t = fld t {τ = tyArray (tyInt w16) 48} {d = 6} refl (stop t)
 
+    pub to-packets : K → Walks K W Γ E (T′.mir, b, o) (field 4 ∷ []) (tyArray (tyInt w8) 48, b, o + 102)
+    to-packets t = fld t {τ = tyArray (tyInt w8) 48} {d = 102} refl (stop t)
+
   module _ {q : Share} {us : Vals} where
     pub in-toc : K → Part K W (cell 𝓤 q b o us) q (tyInt w8) b (o + 0) (getV us 0) (λ u. cell 𝓤 q b o (setV us 0 u))
     in-toc t = sub t 0 {τ = tyInt w8} {d = 0} refl (whole t)
@@ -79,6 +91,10 @@ module _ {M : Type 1} {𝓤 : URA M} {H : Heap 𝓤} {A : Atoms 𝓤} {K : Type 
     pub in-lengths : K → Part K W (cell 𝓤 q b o us) q (tyArray (tyInt w16) 48) b (o + 6) (getV us 3)
         (λ u. cell 𝓤 q b o (setV us 3 u))
     in-lengths t = sub t 3 {τ = tyArray (tyInt w16) 48} {d = 6} refl (whole t)
+
+    pub in-packets : K → Part K W (cell 𝓤 q b o us) q (tyArray (tyInt w8) 48) b (o + 102) (getV us 4)
+        (λ u. cell 𝓤 q b o (setV us 4 u))
+    in-packets t = sub t 4 {τ = tyArray (tyInt w8) 48} {d = 102} refl (whole t)
 
   -- the local i, whose cell is entry n, holds the reference
   module _ {Γ : List (Item 𝓤)} {E : Env 𝓤 H} {q : Share} {us : Vals} {i : ℕ} where
@@ -98,6 +114,10 @@ module _ {M : Type 1} {𝓤 : URA M} {H : Heap 𝓤} {A : Atoms 𝓤} {K : Type 
         → Rv K W (cell 𝓤 q b o us ∷ Γ) E (addrOf (place i (deref T′.mir ∷ field 3 ∷ []))) (vptr b (o + 6))
     lengths-at t n e = addr t (from t (hop t (look t n e) (to-lengths t)))
 
+    pub packets-at : K → (n : ℕ) {q′ : Share} → Holds 𝓤 H A (cell 𝓤 q b o us ∷ Γ) E i n q′ (vptr b o)
+        → Rv K W (cell 𝓤 q b o us ∷ Γ) E (addrOf (place i (deref T′.mir ∷ field 4 ∷ []))) (vptr b (o + 102))
+    packets-at t n e = addr t (from t (hop t (look t n e) (to-packets t)))
+
 module _ (h : OpusRepacketizer) (g : Is T.the-row h (vals h)) where
   pub head-is : Is D.the-row (headOf h) (head-vals h)
   head-is =
@@ -109,6 +129,9 @@ module _ (h : OpusRepacketizer) (g : Is T.the-row h (vals h)) where
 
   pub lengths-stand : Stand w16 48 (h .len)
   lengths-stand = LL.owed T.the-type T′.the-laws h _ g .1 .1 .1 .0
+
+  pub packets-stand : Stand w8 48 (h .packet)
+  packets-stand = LL.owed T.the-type T′.the-laws h _ g .1 .1 .1 .1 .0
 
 module _ {M : Type 1} {𝓤 : URA M} {H : Heap 𝓤} {A : Atoms 𝓤} (W : Given 𝓤 H A) (h : OpusRepacketizer) (g : Is T.the-row h (vals h)) where
   pub toc-typed : Typed (tyInt w8) (getV (parts h) 0)
