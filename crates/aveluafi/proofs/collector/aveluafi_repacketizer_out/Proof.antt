@@ -36,7 +36,6 @@ use denote.Ref.{RefT, ShrRef, shr-copy, ptr-vals, shr-tells}
 use denote.Slice.{sliceVal, slice-vals, MutSlice, ShrSlice, Room, mut-slice-tells, shr-slice-tells}
 use denote.Signature.{plain, shrRefTo, shrSliceOf}
 use denote.Steps.{owned, peeks, heard, nothing}
-use denote.Struct.Laws as LL
 use denote.Triple.Entry.{onEntry}
 use denote.Triple.Spec.{tripleOf}
 use denote.Triple.Statement.{Contract, Triple}
