@@ -124,6 +124,9 @@ module _ (h : OpusRepacketizer) (g : Is T.the-row h (vals h)) where
       let a = LL.owed T.the-type T′.the-laws h _ g in
       LL.owes D.the-type D′.the-laws (headOf h) (a .0, (a .1 .0, (a .1 .1 .0, tt)))
 
+  pub toc-few : h .toc < 256
+  toc-few = LL.owed T.the-type T′.the-laws h _ g .0 .1
+
   pub count-few : h .«nb_frames» < 65536
   count-few = LL.owed T.the-type T′.the-laws h _ g .1 .0 .1
 
