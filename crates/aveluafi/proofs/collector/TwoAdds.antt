@@ -107,8 +107,8 @@ stayed = (
 abbrev Core : {M : Type 1} (𝓤 : URA M) (H : Heap 𝓤) (A : Atoms 𝓤) (mem : Memory → SProp 𝓤) (run : Routine → Fun 𝓤) → Contract 𝓤
 Core 𝓤 H A mem run = tripleOf 𝓤 H A core.signature (core.spec 𝓤 H A mem run)
 
-flag-is : {M : Type 1} {𝓤 : URA M} {H : Heap 𝓤} {A : Atoms 𝓤} {K : Type 0} {W : Given 𝓤 H A} {Γ : List (Item 𝓤)} {E : Env 𝓤 H} → K → (strict : Bool)
-    → Opd K W Γ E (flag strict) (vbool strict)
+flag-is : {M : Type 1} {𝓤 : URA M} {H : Heap 𝓤} {A : Atoms 𝓤} {K : Type 0} {W : Given 𝓤 H A} {Γ : List (Item 𝓤)} {E : Env 𝓤 H}
+    → K → (strict : Bool) → Opd K W Γ E (flag strict) (vbool strict)
 flag-is t true = true-lit t
 flag-is t false = false-lit t
 
@@ -165,8 +165,8 @@ module _ {M : Type 1} (𝓤 : URA M) (H : Heap 𝓤) (A : Atoms 𝓤) (W : Given
   walk fm known room room′ =
       qed W (tokens ∷ ‵ all ∷ []) ∵ use2 W (raw (Core 𝓤 H A mem run .pre to-core)) goes-core $
       enter ! C Λ (thin strict) (vptr b o ∷ p ∷ s ∷ []) _ $
-      alloc1 ! (λ l₀. alloc1 ! (λ l₁. alloc1 ! (λ l₂. alloc1 ! (λ l₃. alloc1 ! (λ l₄. alloc1 ! (λ l₅. alloc1 ! (λ l₆. alloc0 ! $ params1 ! $
-      pass1 ! (init ! 10 refl (tt, tt)) $ pass1 ! (init ! 8 refl (tt, (tt, (record { fits = room .0 }, tt)))) $
+      alloc1 ! (λ l₀. alloc1 ! (λ l₁. alloc1 ! (λ l₂. alloc1 ! (λ l₃. alloc1 ! (λ l₄. alloc1 ! (λ l₅. alloc1 ! (λ l₆. alloc0 ! $
+      params1 ! $ pass1 ! (init ! 10 refl (tt, tt)) $ pass1 ! (init ! 8 refl (tt, (tt, (record { fits = room .0 }, tt)))) $
       pass1 ! (init ! 6 refl (tt, (tt, (record { fits = room′ .0 }, tt)))) $ pass0 ! $
       -- the reference, and the store. [_6; …; to _1; …; room for _0; …; what the core asks]
       assigns ! (addr ! (from ! (hop ! (look ! 10 refl) (stop !)))) (here !) (init ! 4 refl (tt, tt)) $
@@ -191,7 +191,8 @@ module _ {M : Type 1} (𝓤 : URA M) (H : Heap 𝓤) (A : Atoms 𝓤) (W : Given
       suffices ! _ (ends-at 𝓤 H A f.ended stayed (kind 𝓤 strict) W bound v m (zs .0, (tt, (zs .1 .1 .0, tt))) (tt, (tt, (l, tt)))) $ says ! e $
       frame ! $ nothing ! $ move ! (2 ∷ 0 ∷ []) $ fjoin ! $ nothing ! $ fjoin ! $ move ! (1 ∷ 0 ∷ []) $ fjoin ! $ done !)))))))))))))
 
-module _ {M : Type 1} (strict : Bool) (𝓤 : URA M) (H : Heap 𝓤) (𝓜 : Model 𝓤 H) (𝓖 : GhostRules 𝓤 H) (𝓡 : Running 𝓤 H 𝓜) (names : Names) (k : Name) where
+module _ {M : Type 1} (strict : Bool) (𝓤 : URA M) (H : Heap 𝓤) (𝓜 : Model 𝓤 H) (𝓖 : GhostRules 𝓤 H) (𝓡 : Running 𝓤 H 𝓜)
+    (names : Names) (k : Name) where
   pub kind-meets : names #core ≡ core-def.routine
       → Closed 𝓤 H (tables 𝓤 H 𝓜 𝓡 names .C) (tables 𝓤 H 𝓜 𝓡 names .Λ) k (thin strict)
       → Triple 𝓤 (𝓡 .run (names k)) (tripleOf 𝓤 H (𝓖 .A) f.signature (closing 𝓤 H (𝓖 .A) f.ended (kind 𝓤 strict)))
@@ -199,7 +200,8 @@ module _ {M : Type 1} (strict : Bool) (𝓤 : URA M) (H : Heap 𝓤) (𝓜 : Mod
   kind-meets calls unfolded =
       let W = givenOf 𝓤 H 𝓜 𝓖 in
       let 𝓣 = tablesOf 𝓤 H 𝓜 (tables 𝓤 H 𝓜 𝓡 names) in
-      let known = cited 𝓤 H (Core 𝓤 H (𝓖 .A) (𝓜 .mem) (𝓡 .run)) 𝓜 𝓡 names #core core-def.routine calls (core-thm.met 𝓤 H 𝓜 𝓖 𝓡) in
+      let known = cited 𝓤 H (Core 𝓤 H (𝓖 .A) (𝓜 .mem) (𝓡 .run)) 𝓜 𝓡 names #core core-def.routine calls
+      (core-thm.met 𝓤 H 𝓜 𝓖 𝓡) in
       concluded 𝓤 H 𝓜 𝓖 𝓡 f.ended stayed (kind 𝓤 strict) names k (thin strict) unfolded (
         goes-gave-ref 𝓤 H (𝓖 .A) W 3 0 tt (plain (λ _. T.the-row)),
         (

@@ -109,7 +109,8 @@ module _ {M : Type 1} (𝓤 : URA M) (H : Heap 𝓤) (A : Atoms 𝓤) (W : Given
   tokens = ‵ (flft κ₁ q₁) ⊛ ‵ (flft κ₂ q₂) ⊛ ‵ ftrue
 
   abbrev others : Fml
-  others = owns (ShrSlice (named 1) κ₁ u8 ∷ i32 ∷ MutSlice (named 2) κ₂ u8 ∷ []) (store, (number, (dst, tt))) (s ∷ [], (signed number ∷ [], (d ∷ [], tt)))
+  others = owns (ShrSlice (named 1) κ₁ u8 ∷ i32 ∷ MutSlice (named 2) κ₂ u8 ∷ []) (store, (number, (dst, tt)))
+      (s ∷ [], (signed number ∷ [], (d ∷ [], tt)))
 
   abbrev bound : walkOf 𝓤 H A f.ended stayed (f.clauses 𝓤 H A mem run) .Ghost
   bound = (
@@ -175,7 +176,8 @@ module _ {M : Type 1} (𝓤 : URA M) (H : Heap 𝓤) (A : Atoms 𝓤) (W : Given
   goes-core : (r : Range) → Is i32 (r .begin) (signed (r .begin) ∷ []) → Is i32 (r .end) (signed (r .end) ∷ [])
       → ent 𝓤 (⋆ 𝓤 H A (‵ own-ref ∷ ‵ others ∷ (‵ (flft κ q) ⊛ tokens) ∷ [])) (Core 𝓤 H A mem run .pre (to-core r))
   goes-core r is-begin is-end =
-      qed W (‵ own-ref ∷ ‵ others ∷ (‵ (flft κ q) ⊛ tokens) ∷ []) ∵ move ! (1 ∷ []) $ fsplit ! $ move ! (1 ∷ []) $ fsplit ! $ drop ! $ fsplit ! $
+      qed W (‵ own-ref ∷ ‵ others ∷ (‵ (flft κ q) ⊛ tokens) ∷ []) ∵
+      move ! (1 ∷ []) $ fsplit ! $ move ! (1 ∷ []) $ fsplit ! $ drop ! $ fsplit ! $
       -- [the destination; true; the store; the reference; the tokens]
       move ! (1 ∷ []) $ owned ! bool (Is bool) (bool-makes 𝓤 H A W) false (vbool false ∷ []) refl $ fjoin ! $
       owned ! bool (Is bool) (bool-makes 𝓤 H A W) false (vbool false ∷ []) refl $ fjoin ! $ move ! (1 ∷ 0 ∷ []) $ fjoin ! $
@@ -256,8 +258,8 @@ module _ {M : Type 1} (𝓤 : URA M) (H : Heap 𝓤) (A : Atoms 𝓤) (W : Given
       land ! (here !) (init ! 22 refl (sint-lawful 𝓤 H A W w32 .typed m _ is .0)) $
       returns ! (look ! 22 refl) $ freed ! 22 refl refl $ freed ! 20 refl refl $ freed ! 18 refl refl $ freed ! 16 refl refl $ freed ! 14 refl refl $
       freed ! 12 refl refl $ freed ! 10 refl refl $ freed ! 8 refl refl $ freed ! 6 refl refl $ freed ! 4 refl refl $ free0 ! $ keep ! (0 ∷ 1 ∷ 2 ∷ []) $
-      suffices ! _ (ends-at 𝓤 H A f.ended stayed (f.clauses 𝓤 H A mem run) W bound w m (tt, (tt, (tt, (zs .1 .1 .1 .1 .0, tt)))) (tt, (tt, (tt, (l, tt))))) $
-      says ! (told g r m (zs .1 .1 .1 .1 .0) n e) $
+      suffices ! _ (ends-at 𝓤 H A f.ended stayed (f.clauses 𝓤 H A mem run) W bound w m (tt, (tt, (tt, (zs .1 .1 .1 .1 .0, tt))))
+      (tt, (tt, (tt, (l, tt))))) $ says ! (told g r m (zs .1 .1 .1 .1 .0) n e) $
       move ! (1 ∷ []) $ frame ! $ nothing ! $ move ! (2 ∷ 0 ∷ []) $ fjoin ! $ nothing ! $ fjoin ! $ nothing ! $ fjoin ! $ nothing ! $ fjoin ! $
       done !))))))))))))))))))))))
 

@@ -182,8 +182,8 @@ module _ {M : Type 1} (𝓤 : URA M) (H : Heap 𝓤) (A : Atoms 𝓤) (W : Given
       split ! $ move ! (2 ∷ []) $ fsplit ! $
       enter ! C Λ code.function (vptr b o ∷ s ∷ b₀ ∷ e₀ ∷ d ∷ vbool sd ∷ vbool pad ∷ []) _ $
       alloc1 ! (λ l₀. alloc1 ! (λ l₁. alloc1 ! (λ l₂. alloc1 ! (λ l₃. alloc1 ! (λ l₄. alloc1 ! (λ l₅. alloc1 ! (λ l₆. alloc1 ! (λ l₇.
-      alloc1 ! (λ l₈. alloc1 ! (λ l₉. alloc1 ! (λ l₁₀. alloc1 ! (λ l₁₁. alloc1 ! (λ l₁₂. alloc1 ! (λ l₁₃. alloc1 ! (λ l₁₄. alloc1 ! (λ l₁₅.
-      alloc0 ! $ params1 ! $ pass1 ! (init ! 28 refl (tt, tt)) $ pass1 ! (init ! 26 refl (tt, (tt, (record { fits = room .0 }, tt)))) $
+      alloc1 ! (λ l₈. alloc1 ! (λ l₉. alloc1 ! (λ l₁₀. alloc1 ! (λ l₁₁. alloc1 ! (λ l₁₂. alloc1 ! (λ l₁₃. alloc1 ! (λ l₁₄.
+      alloc1 ! (λ l₁₅. alloc0 ! $ params1 ! $ pass1 ! (init ! 28 refl (tt, tt)) $ pass1 ! (init ! 26 refl (tt, (tt, (record { fits = room .0 }, tt)))) $
       pass1 ! (init ! 24 refl (sint-lawful 𝓤 H A W w32 .typed begin _ is-begin .0)) $
       pass1 ! (init ! 22 refl (sint-lawful 𝓤 H A W w32 .typed end _ is-end .0)) $ pass1 ! (init ! 20 refl (tt, (tt, (record { fits = room′ .0 }, tt)))) $
       pass1 ! (init ! 18 refl (bool-lawful 𝓤 H A W .typed sd _ is-sd .0)) $
