@@ -1,11 +1,13 @@
 // Runs document 01's cases at the edges for the collector, its output, pad, unpad and the multistream calls through the compiled code, and those of
-// document 02, M-100, on rule and place. A line is a case: what was called, the number it answered, or number, rule and place, and the buffer.
+// document 02: M-100 on rule and place, M-105 on strict adds, M-107 on packet numbers. A line is a case: what was called, the number it answered, or number,
+// rule and place, and the buffer.
 use opus_defines::Answer;
 use opus_defines::Report;
 use opus_defines::Verdict;
 use repacketizer::Added;
 use repacketizer::OpusRepacketizer;
 use repacketizer::strict::opus_repacketizer_cat_strict;
+use repacketizer_out::by_number::opus_repacketizer_out_packet;
 
 // The end of a case: its number and the buffer.
 fn shown(n: i32, buffer: &[u8]) {
@@ -308,6 +310,88 @@ fn stream_place_cases() {
     stream_place(&mut first, 3);
 }
 
+// ---- packet numbers
+
+fn out_packet(rp: OpusRepacketizer, store: &[u8], number: i32, data: &mut [u8]) {
+    show::text(b"out packet ");
+    show::number(number);
+    let n = opus_repacketizer_out_packet(rp, store, number, data);
+    shown(n, data);
+}
+
+// A destination of 65,536 bytes, of which the front is shown.
+fn out_packet_far(rp: OpusRepacketizer, store: &[u8]) {
+    let mut data = [238u8; 65536];
+    let n = opus_repacketizer_out_packet(rp, store, 2, &mut data);
+    show::text(b"out packet 2 into 65536: ");
+    show::number(n);
+    show::text(b" ");
+    show::front(&data, 3);
+    show::text(b"\n");
+}
+
+fn packets_out(rp: OpusRepacketizer, store: &[u8]) {
+    let mut three = [238u8; 3];
+    let mut two = [238u8; 2];
+    out_packet(rp, store, 2, &mut three);
+    out_packet(rp, store, 2, &mut two);
+    out_packet(rp, store, 0, &mut two);
+    out_packet(rp, store, 1, &mut three);
+    let mut none = [238u8; 0];
+    out_packet(rp, store, 3, &mut none);
+    out_packet(rp, store, -1, &mut none);
+    out_packet_far(rp, store);
+}
+
+// So many frames are held, the first two with these numbers.
+fn renumbered(rp: OpusRepacketizer, count: u16, first: u8, second: u8) -> OpusRepacketizer {
+    let mut packet = rp.packet;
+    packet[0] = first;
+    packet[1] = second;
+    let mut more = rp;
+    more.nb_frames = count;
+    more.packet = packet;
+    more
+}
+
+// Whether a collector with such numbers is sound, by the frames held and by the output of the first frame's packet.
+fn numbered(rp: OpusRepacketizer, store: &[u8], count: u16, first: u8, second: u8) {
+    let held = renumbered(rp, count, first, second);
+    show::text(b"held with numbers ");
+    show::decimal(first as usize);
+    show::text(b" ");
+    show::decimal(second as usize);
+    show::text(b": ");
+    show::number(repacketizer::opus_repacketizer_get_nb_frames(held));
+    show::text(b"\n");
+    let mut five = [238u8; 5];
+    out_packet(held, store, first as i32, &mut five);
+}
+
+// Numbers that leave one out, that begin at 1, and sound ones; those behind the count are free.
+fn numbered_cases(rp: OpusRepacketizer, store: &[u8]) {
+    numbered(rp, store, 2, 0, 2);
+    numbered(rp, store, 2, 1, 1);
+    numbered(rp, store, 2, 0, 0);
+    numbered(rp, store, 0, 7, 7);
+    numbered(rp, store, 1, 0, 9);
+}
+
+// Three packets of which the last has two frames.
+fn number_cases() {
+    let mut store = [0u8; 61200];
+    let rp0 = repacketizer::opus_repacketizer_init();
+    let rp1 = added(repacketizer::opus_repacketizer_cat(rp0, b"\x00\xaa", &mut store));
+    let rp2 = added(repacketizer::opus_repacketizer_cat(rp1, b"\x00\xbb\xcc", &mut store));
+    let rp3 = added(repacketizer::opus_repacketizer_cat(rp2, b"\x01\xdd\xee", &mut store));
+    let packet = rp3.packet;
+    show::text(b"numbers: ");
+    show::front(&packet, 4);
+    show::text(b"\n");
+    packets_out(rp3, &store);
+    numbered_cases(rp3, &store);
+}
+
 fn main() {
     collector_cases();
     pad_cases();
@@ -319,4 +403,5 @@ fn main() {
     in_place_places();
     stream_place_cases();
     strict_cases();
+    number_cases();
 }
