@@ -13,6 +13,8 @@ use replay_io::output::flushed;
 use replay_io::output::put;
 use replay_io::output::text;
 use replay_io::output::written;
+use replay_numbers::packet_case;
+use replay_numbers::range_case;
 use replay_reading::reading_case;
 
 // Which crate answers a kind. Only the collector needs the store.
@@ -29,6 +31,8 @@ fn case(
         2 => collect_case(input, c, work, store, out, at),
         17 => places_case(input, c, work, store, out, at, false),
         18 => places_case(input, c, work, store, out, at, true),
+        19 => packet_case(input, c, work, store, out, at),
+        20 => range_case(input, c, work, store, out, at),
         3..=6 | 13..=16 => in_place_case(input, c, work, out, at, kind),
         _ => reading_case(input, c, work, out, at, kind),
     }
@@ -109,7 +113,7 @@ fn main() {
     let mut input = [0u8; 65536];
     let mut work = [0u8; 65536];
     let mut store = [0u8; 65536];
-    let mut out = [0u8; 262144];
+    let mut out = [0u8; 335872];
     let n = replay(&mut input, &mut work, &mut store, &mut out);
     written(&out, n);
 }

@@ -2,7 +2,7 @@
 use opus_defines::Refusal;
 use opus_defines::Report;
 
-// The output is written once it holds so many bytes. A line has fewer than 136,000.
+// The output is written once it holds so many bytes. A line has fewer than 270,000.
 const FULL: usize = 65536;
 
 pub fn put(out: &mut [u8], at: usize, b: u8) -> usize {

@@ -17,7 +17,7 @@ use replay_io::output::text;
 use replay_io::room::UNSET;
 use replay_io::room::unset_behind;
 
-// The collector, how many bytes its store has, how many adds follow, and where the input goes on, if the case is whole so far.
+// The collector, how many bytes its store has, and where the input goes on, if the case is whole so far.
 pub struct State {
     pub whole: bool,
     pub next: usize,
@@ -25,7 +25,6 @@ pub struct State {
     pub came: usize,
     pub rp: OpusRepacketizer,
     pub store: usize,
-    pub adds: u8,
 }
 
 fn no_state() -> State {
@@ -36,7 +35,15 @@ fn no_state() -> State {
         came: 0,
         rp: repacketizer::opus_repacketizer_init(),
         store: 0,
-        adds: 0,
+    }
+}
+
+// Where the input goes on behind a state.
+pub fn cursor_behind(s: State) -> Cursor {
+    Cursor {
+        at: s.next,
+        end: s.end,
+        came: s.came,
     }
 }
 
@@ -53,7 +60,13 @@ enum HeadAt {
     Cut,
 }
 
-enum LengthsAt {
+// A frame's length, and the number of the packet that it came in; 0 where no numbers are given.
+enum FrameAt {
+    Is(u16, u8, Cursor),
+    Cut,
+}
+
+enum FramesAt {
     Is(Cursor),
     Cut,
 }
@@ -89,22 +102,47 @@ fn head_at(input: &mut [u8], c: Cursor) -> HeadAt {
     head_numbers(input, d, toc)
 }
 
-// The first n lengths.
-fn lengths(input: &mut [u8], c: Cursor, len: &mut [u16; 48], n: usize) -> LengthsAt {
+fn number_at(input: &mut [u8], c: Cursor, numbered: bool) -> ByteAt {
+    if !numbered {
+        return ByteAt::Is(0, c);
+    }
+    byte(input, c)
+}
+
+fn frame_at(input: &mut [u8], c: Cursor, numbered: bool) -> FrameAt {
+    let TwoAt::Is(n, d) = two(input, c) else {
+        return FrameAt::Cut;
+    };
+    let ByteAt::Is(k, e) = number_at(input, d, numbered) else {
+        return FrameAt::Cut;
+    };
+    FrameAt::Is(n, k, e)
+}
+
+// The first n lengths, each with its number where numbers are given.
+fn frames(
+    input: &mut [u8],
+    c: Cursor,
+    len: &mut [u16; 48],
+    packet: &mut [u8; 48],
+    n: usize,
+    numbered: bool,
+) -> FramesAt {
     let mut next = c;
     let mut i: usize = 0;
     while i < 48 {
         if n <= i {
-            return LengthsAt::Is(next);
+            return FramesAt::Is(next);
         }
-        let TwoAt::Is(x, d) = two(input, next) else {
-            return LengthsAt::Cut;
+        let FrameAt::Is(x, k, d) = frame_at(input, next, numbered) else {
+            return FramesAt::Cut;
         };
         len[i] = x;
+        packet[i] = k;
         next = d;
         i += 1;
     }
-    LengthsAt::Is(next)
+    FramesAt::Is(next)
 }
 
 // The store's bytes: the front is given, the others are unset.
@@ -122,12 +160,13 @@ fn store_at(input: &mut [u8], c: Cursor, store: &mut [u8]) -> NumberAt {
     NumberAt::Is(size, e)
 }
 
-fn collector_at(h: Head, len: [u16; 48]) -> OpusRepacketizer {
+fn collector_at(h: Head, len: [u16; 48], packet: [u8; 48]) -> OpusRepacketizer {
     OpusRepacketizer {
         toc: h.toc,
         nb_frames: h.count,
         framesize: Samples8k(h.framesize),
         len,
+        packet,
     }
 }
 
@@ -136,33 +175,31 @@ fn state_behind(input: &mut [u8], c: Cursor, store: &mut [u8], rp: OpusRepacketi
     let NumberAt::Is(size, d) = store_at(input, c, store) else {
         return no_state();
     };
-    let ByteAt::Is(adds, e) = byte(input, d) else {
-        return no_state();
-    };
     State {
         whole: true,
-        next: e.at,
-        end: e.end,
-        came: e.came,
+        next: d.at,
+        end: d.end,
+        came: d.came,
         rp,
         store: size,
-        adds,
     }
 }
 
-fn state_from(input: &mut [u8], c: Cursor, store: &mut [u8], h: Head) -> State {
+fn state_from(input: &mut [u8], c: Cursor, store: &mut [u8], h: Head, numbered: bool) -> State {
     let mut len = [0u16; 48];
-    let LengthsAt::Is(d) = lengths(input, c, &mut len, h.lengths as usize) else {
+    let mut packet = [0u8; 48];
+    let n = h.lengths as usize;
+    let FramesAt::Is(d) = frames(input, c, &mut len, &mut packet, n, numbered) else {
         return no_state();
     };
-    state_behind(input, d, store, collector_at(h, len))
+    state_behind(input, d, store, collector_at(h, len, packet))
 }
 
-pub fn state_at(input: &mut [u8], c: Cursor, store: &mut [u8]) -> State {
+pub fn state_at(input: &mut [u8], c: Cursor, store: &mut [u8], numbered: bool) -> State {
     let HeadAt::Is(h, d) = head_at(input, c) else {
         return no_state();
     };
-    state_from(input, d, store, h)
+    state_from(input, d, store, h, numbered)
 }
 
 // How many of the first n bytes stand before the unset ones at their end.
@@ -180,6 +217,21 @@ fn set_bytes(store: &[u8], n: usize) -> usize {
     0
 }
 
+fn packet_number(out: &mut [u8], at: usize, k: u8) -> usize {
+    spaced(out, at, k as u16)
+}
+
+// All 48 packet numbers, each behind a space.
+fn numbers(out: &mut [u8], at: usize, packet: &[u8; 48]) -> usize {
+    let mut next = at;
+    let mut i: usize = 0;
+    while i < 48 {
+        next = packet_number(out, next, packet[i]);
+        i += 1;
+    }
+    next
+}
+
 fn collector(out: &mut [u8], at: usize, rp: OpusRepacketizer) -> usize {
     let each = rp.framesize;
     let a = decimal(out, at, rp.toc as usize);
@@ -189,15 +241,25 @@ fn collector(out: &mut [u8], at: usize, rp: OpusRepacketizer) -> usize {
     sizes(out, c, &len, 48)
 }
 
+fn collector_told(out: &mut [u8], at: usize, rp: OpusRepacketizer, numbered: bool) -> usize {
+    let next = collector(out, at, rp);
+    if !numbered {
+        return next;
+    }
+    let packet = rp.packet;
+    numbers(out, next, &packet)
+}
+
 pub fn collector_and_store(
     out: &mut [u8],
     at: usize,
     rp: OpusRepacketizer,
     store: &[u8],
     n: usize,
+    numbered: bool,
 ) -> usize {
     let a = text(out, at, b"; ");
-    let b = collector(out, a, rp);
+    let b = collector_told(out, a, rp, numbered);
     let c = text(out, b, b" ; ");
     buffer(out, c, store, set_bytes(store, n))
 }

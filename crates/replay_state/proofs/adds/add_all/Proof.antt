@@ -1,10 +1,10 @@
--- `replay_collector::add_all` is safe and ends.
+-- `replay_state::adds::add_all` is safe and ends.
 -- Assumes nothing.
 use mathlib.Core.Path.{_≡_}
 use borrow.Author.Needs.{needs}
 use lib.ListN.{length}
-use Rattle.replay_collector.proofs.add_all.Statement.{statement}
-use Rattle.replay_collector.proofs.add_all.Tie as tie
+use Rattle.replay_state.proofs.adds.add_all.Statement.{statement}
+use Rattle.replay_state.proofs.adds.add_all.Tie as tie
 
 abbrev Inv-loop : tie.InvT-loop
 Inv-loop input₀ work₀ store₀ out₀ n s₀ left₀ input work store out s left =
