@@ -1,6 +1,7 @@
 // Writes cases of the replay protocol to standard output: `generate SEED COUNT` for so many random ones, `generate short` for every packet of 0, 1 and
 // 2 bytes through every call. `generate places ..`: the same for the kinds that tell rule and place, with packets that break a rule more often than not.
 // `generate strict SEED COUNT`: adds of kind 18, strict and ordinary, of packets with clean padding and with dirty.
+// `generate numbers SEED COUNT`: kinds 19 and 20, on collectors with packet numbers.
 // `generate stages SEED COUNT` writes so many packets to be padded in two steps (tests/stages). The same seed and count give the same bytes.
 use std::io::Write;
 
@@ -573,8 +574,19 @@ fn told_length(r: &mut Random, len: usize) -> i32 {
     }
 }
 
-// A collector that holds frames of this kind, now and then not sound.
-fn held_state(r: &mut Random, out: &mut Vec<u8>, six: u8) {
+// A collector and its store. The lengths are those of the frames made for it, of which it says how many it holds, and some behind them.
+struct State {
+    toc: u8,
+    said: u16,
+    each: u16,
+    count: usize,
+    lens: Vec<u16>,
+    store: i32,
+    front: Vec<u8>,
+}
+
+// One that holds frames of this kind, now and then not sound.
+fn held_state(r: &mut Random, six: u8) -> State {
     let full = 5760 / samples(six);
     let count = match r.below(6) {
         0 | 1 => 0,
@@ -590,28 +602,36 @@ fn held_state(r: &mut Random, out: &mut Vec<u8>, six: u8) {
         3 if count > 0 => lens[count - 1] = r.pick(&[1275, 1276, 32768, 65535]),
         _ => {}
     }
-    out.push(toc);
-    out.extend(said.to_le_bytes());
-    out.extend(each.to_le_bytes());
     // lengths behind those held, which stay
     if lens.len() < 48 && r.chance(20) {
         lens.push(r.below(65536) as u16);
     }
-    out.push(lens.len() as u8);
-    for n in &lens {
-        out.extend(n.to_le_bytes());
-    }
     let store = if r.chance(3) { r.pick(&[0, 61199, 61201, 65536]) } else { 61200 };
-    put(out, store);
     let held: usize = lens[..count].iter().map(|n| *n as usize).sum();
     let front = r.bytes(held.min(store as usize));
-    put_bytes(out, &front);
+    State { toc, said, each, count, lens, store, front }
+}
+
+// Each length has its packet number behind it, where numbers are given.
+fn put_state(out: &mut Vec<u8>, s: &State, numbers: Option<&[u8]>) {
+    out.push(s.toc);
+    out.extend(s.said.to_le_bytes());
+    out.extend(s.each.to_le_bytes());
+    out.push(s.lens.len() as u8);
+    for (i, n) in s.lens.iter().enumerate() {
+        out.extend(n.to_le_bytes());
+        if let Some(numbers) = numbers {
+            out.push(numbers[i]);
+        }
+    }
+    put(out, s.store);
+    put_bytes(out, &s.front);
 }
 
 fn adds_with_places(r: &mut Random, out: &mut Vec<u8>) {
     let six = if r.chance(25) { 0x80 } else { r.byte() & 0xfc };
     out.push(17);
-    held_state(r, out, six);
+    put_state(out, &held_state(r, six), None);
     let n = r.between(0, 4);
     out.push(n as u8);
     for _ in 0..n {
@@ -647,7 +667,7 @@ fn spotted(r: &mut Random, six: u8) -> Vec<u8> {
 fn adds_of_kinds(r: &mut Random, out: &mut Vec<u8>) {
     let six = if r.chance(25) { 0x80 } else { r.byte() & 0xfc };
     out.push(18);
-    held_state(r, out, six);
+    put_state(out, &held_state(r, six), None);
     let n = r.between(0, 5);
     out.push(n as u8);
     for _ in 0..n {
@@ -659,6 +679,143 @@ fn adds_of_kinds(r: &mut Random, out: &mut Vec<u8>) {
             _ => spotted(r, kind),
         };
         put_bytes(out, &p);
+    }
+}
+
+// ---- packet numbers
+
+// Numbers for a state's frames: from 0 on by 0 or 1, now and then with one thing wrong; behind the frames anything.
+fn packet_numbers(r: &mut Random, s: &State) -> Vec<u8> {
+    let apart = r.pick(&[0, 30, 50, 70, 100]);
+    let mut last = 0;
+    let mut numbers: Vec<u8> = (0..s.lens.len())
+        .map(|i| {
+            last += (i > 0 && r.chance(apart)) as u8;
+            if i < s.count { last } else { r.byte() }
+        })
+        .collect();
+    if s.count == 0 {
+        return numbers;
+    }
+    let held = &mut numbers[..s.count];
+    let at = r.below(held.len());
+    match r.below(60) {
+        // not from 0 on: all, or the first
+        0 => held.iter_mut().for_each(|k| *k += 1),
+        1 => held[0] = r.pick(&[1, 2, 47, 48, 255]),
+        // two further from a frame on, or in one
+        2 => held[at..].iter_mut().for_each(|k| *k += 2),
+        3 => held[at] += 2,
+        // back: by one, to 0, or all from the last number down
+        4 => held[at] = held[at].wrapping_sub(1),
+        5 => held[at] = 0,
+        6 => held.reverse(),
+        7 => held[at] = r.pick(&[47, 48, 127, 128, 254, 255]),
+        _ => {}
+    }
+    numbers
+}
+
+// Adds behind a state: a few, or as many as fit and more.
+fn adds_behind(r: &mut Random, six: u8, held: usize) -> Vec<(u8, Vec<u8>)> {
+    let left = (5760 / samples(six)).saturating_sub(held);
+    let n = match r.below(12) {
+        0 => 0,
+        1 => left + r.between(0, 2),
+        _ => r.between(1, 6),
+    };
+    let frames = if n > 6 { r.pick(&[1, 1, 2]) } else { r.pick(&[1, 2, 3, 48]) };
+    let bytes = r.pick(&[0, 3, 20, 20, 20, 300, 1275]);
+    let adds = (0..n).map(|_| {
+        let kind = if r.chance(92) { six } else { six ^ r.pick(&[4, 8, 16, 32, 64, 128]) };
+        let strict = if r.chance(50) { r.pick(&[1, 1, 2, 255]) } else { 0 };
+        let p = match r.below(12) {
+            0 => broken(r, false, Some(kind)),
+            1..=3 => spotted(r, kind),
+            4 if r.chance(10) => packet(r, false, Some(kind)),
+            _ => packet_within(r, false, kind, frames, bytes),
+        };
+        (strict, p)
+    });
+    adds.collect()
+}
+
+// The lengths of each packet held after all adds, as far as this can tell: dirty padding is not looked for.
+fn packets_after(s: &State, numbers: &[u8], adds: &[(u8, Vec<u8>)]) -> Vec<Vec<usize>> {
+    let mut packets: Vec<Vec<usize>> = Vec::new();
+    for i in 0..s.count {
+        if i == 0 || numbers[i] != numbers[i - 1] {
+            packets.push(Vec::new());
+        }
+        packets.last_mut().unwrap().push(s.lens[i] as usize);
+    }
+    let (mut toc, mut held) = (s.toc, s.count);
+    for (_, p) in adds {
+        let Some(lens) = lengths(p) else { continue };
+        if held == 0 {
+            toc = p[0];
+        }
+        if p[0] & 0xfc == toc & 0xfc && (held + lens.len()) * samples(toc) <= 5760 {
+            held += lens.len();
+            packets.push(lens);
+        }
+    }
+    packets
+}
+
+// A packet's number: one held, the one behind the last, or any.
+fn wanted(r: &mut Random, held: usize) -> i32 {
+    match r.below(20) {
+        0 => held as i32,
+        1 => r.pick(&EXTREMES),
+        2 => r.pick(&[-1, 47, 48, 255, 256]),
+        3..=7 => held as i32 - 1,
+        _ => r.below(held.max(1)) as i32,
+    }
+}
+
+fn packet_case(r: &mut Random, out: &mut Vec<u8>, six: u8) {
+    let s = held_state(r, six);
+    let numbers = packet_numbers(r, &s);
+    let adds = adds_behind(r, six, s.count);
+    let packets = packets_after(&s, &numbers, &adds);
+    let k = wanted(r, packets.len());
+    let size = packets.get(k as usize).map_or(3, |lens| compact(lens, false));
+    out.push(19);
+    put_state(out, &s, Some(&numbers));
+    put(out, k);
+    put(out, room(r, size).min(65536) as i32);
+    out.push(adds.len() as u8);
+    for (strict, p) in &adds {
+        out.push(*strict);
+        put_bytes(out, p);
+    }
+}
+
+fn range_case(r: &mut Random, out: &mut Vec<u8>, six: u8) {
+    let s = held_state(r, six);
+    let numbers = packet_numbers(r, &s);
+    let held: Vec<usize> = s.lens[..s.count].iter().map(|n| *n as usize).collect();
+    let (begin, end) = range(r, held.len());
+    let (delim, pad) = (r.chance(40), r.chance(40));
+    let right = 0 <= begin && begin < end && end as usize <= held.len();
+    let size = compact(if right { &held[begin as usize..end as usize] } else { &held }, delim);
+    out.push(20);
+    put_state(out, &s, Some(&numbers));
+    out.extend([delim as u8, pad as u8]);
+    put(out, begin);
+    put(out, end);
+    put(out, room(r, size).min(65536) as i32);
+    let p = if r.chance(25) { broken(r, false, Some(six)) } else { packet_within(r, false, six, 6, 60) };
+    put_bytes(out, &p);
+}
+
+fn number_case(r: &mut Random, out: &mut Vec<u8>) {
+    let six = if r.chance(40) { 0x80 | (r.byte() & 0x64) } else { r.byte() & 0xfc };
+    if r.chance(75) {
+        packet_case(r, out, six);
+    } else {
+        range_case(r, out, six);
     }
 }
 
@@ -825,9 +982,10 @@ fn main() {
     }
     let staged = words.len() == 3 && words[0] == "stages";
     let strict = words.len() == 3 && words[0] == "strict";
-    let numbers: Option<Vec<u64>> = words[(staged || strict || places) as usize..].iter().map(|w| w.parse().ok()).collect();
+    let numbered = words.len() == 3 && words[0] == "numbers";
+    let numbers: Option<Vec<u64>> = words[(staged || strict || numbered || places) as usize..].iter().map(|w| w.parse().ok()).collect();
     let Some([seed, count]) = numbers.as_deref() else {
-        eprintln!("usage: generate [places | stages | strict] SEED COUNT | generate [places] short");
+        eprintln!("usage: generate [places | stages | strict | numbers] SEED COUNT | generate [places] short");
         std::process::exit(2);
     };
     // a seed of 0 would stay 0
@@ -837,6 +995,8 @@ fn main() {
             stages(&mut r, &mut out);
         } else if strict {
             adds_of_kinds(&mut r, &mut out);
+        } else if numbered {
+            number_case(&mut r, &mut out);
         } else if places {
             place_case(&mut r, &mut out);
         } else {

@@ -1,9 +1,10 @@
-// Answers kinds 11 to 18 of the replay protocol, with rule and place, by the crate unopus 0.0.1 whose refusing returns are marked (places.patch). The
+// Answers kinds 11 to 20 of the replay protocol, with rule and place, by the crate unopus 0.0.1 whose refusing returns are marked (places.patch). The
 // build puts the folder of the marked copy for CRATE_FOLDER.
 //
 // Written here, from documents 01 and 02: the rules that the length reader can be told; the bounds outside which the crate would touch memory that is not
 // its own, or which the port adds (65,535 bytes, the lent buffer, 1 to 255 streams); soundness of a collector and the least store; the store, into which
-// the port copies the frames that the crate points at; dirty padding (kind 18), looked for behind the frames that the crate has found.
+// the port copies the frames that the crate points at; dirty padding (kinds 18 and 19), looked for behind the frames that the crate has found; packet
+// numbers (kinds 19 and 20). The output of a packet by its number is what the crate's unpad makes of the packet itself, which is kept for that.
 // Beside a refusal every other field is 0, and the collector, the store and the buffer are as they were.
 #![allow(unused, non_snake_case, non_camel_case_types, static_mut_refs, dead_code)]
 
@@ -167,13 +168,6 @@ fn over(len: i32, lent: &[u8]) -> bool {
     len > lent.len().min(MOST) as i32
 }
 
-// Document 01: empty, or frames of at most 1275 bytes, the TOC's frame size at 8 kHz, and at most 960 samples.
-unsafe fn sound(toc: u8, count: u16, framesize: u16, len: &[u16; 48]) -> bool {
-    let own = opus_packet_get_samples_per_frame(&toc, 8000);
-    let (n, each) = (count as usize, framesize as i32);
-    n == 0 || each == own && n as i32 * each <= 960 && len[..n].iter().all(|l| *l <= 1275)
-}
-
 // Whether a packet that the crate reads has a byte other than zero behind its last frame.
 unsafe fn dirty(p: &[u8]) -> bool {
     let (mut toc, mut first, mut taken) = (0u8, 0i32, 0i32);
@@ -197,58 +191,205 @@ unsafe fn dirty(p: &[u8]) -> bool {
     p[end..].iter().any(|b| *b != 0)
 }
 
-unsafe fn adds(i: &mut Input, line: &mut String, kinds: bool) -> Option<()> {
-    let (mut toc, mut count, mut framesize) = (i.u8()?, i.u16()?, i.u16()?);
-    let mut len = [0u16; 48];
-    let n = i.u8()? as usize;
-    if n > 48 {
-        return None;
+// ---- the collector
+
+const LEAST_STORE: usize = 61200;
+
+struct Held {
+    toc: u8,
+    count: u16,
+    framesize: u16,
+    len: [u16; 48],
+    packet: [u8; 48],
+    store: Vec<u8>,
+    // The packets accepted since the case began.
+    originals: Vec<Vec<u8>>,
+}
+
+// Numbers that begin at 0 and go from frame to frame by 0 or 1 (document 02, M-107).
+fn numbered(n: &[u8]) -> bool {
+    n.first().map_or(true, |k| *k == 0) && n.windows(2).all(|w| w[0] <= w[1] && w[1] - w[0] <= 1)
+}
+
+impl Held {
+    fn read(i: &mut Input, numbered: bool) -> Option<Held> {
+        let (toc, count, framesize) = (i.u8()?, i.u16()?, i.u16()?);
+        let (mut len, mut packet) = ([0; 48], [0; 48]);
+        let n = i.u8()? as usize;
+        if n > 48 {
+            return None;
+        }
+        for k in 0..n {
+            len[k] = i.u16()?;
+            packet[k] = if numbered { i.u8()? } else { 0 };
+        }
+        let size = i.room()?;
+        let mut store = i.bytes()?;
+        if store.len() > size {
+            return None;
+        }
+        store.resize(size, UNSET);
+        Some(Held { toc, count, framesize, len, packet, store, originals: Vec::new() })
     }
-    for l in &mut len[..n] {
-        *l = i.u16()?;
+
+    // Document 01: empty, or frames of at most 1275 bytes, the TOC's frame size at 8 kHz, and at most 960 samples. Document 02: their packet numbers.
+    unsafe fn sound(&self) -> bool {
+        let own = opus_packet_get_samples_per_frame(&self.toc, 8000);
+        let (n, each) = (self.count as usize, self.framesize as i32);
+        let framed = n == 0 || each == own && n as i32 * each <= 960 && self.len[..n].iter().all(|l| *l <= 1275);
+        framed && numbered(&self.packet[..n])
     }
-    let size = i.room()?;
-    let mut store = i.bytes()?;
-    if store.len() > size {
-        return None;
+
+    // The crate's collector, which points at the frames in the store.
+    unsafe fn collector(&self) -> OpusRepacketizer {
+        let mut rp = collector(self.toc, self.count as i32, self.framesize as i32, self.len.map(|l| l as i16));
+        let mut at = 0;
+        for k in 0..self.count as usize {
+            rp.frames[k] = self.store.as_ptr().wrapping_add(at);
+            at += self.len[k] as usize;
+        }
+        rp
     }
-    store.resize(size, UNSET);
-    for _ in 0..i.u8()? {
-        let strict = kinds && i.u8()? != 0;
-        let p = i.bytes()?;
-        let held = count as usize;
-        let mut rp = collector(toc, count as i32, framesize as i32, len.map(|l| l as i16));
+
+    // What every call refuses before it looks at its other arguments.
+    unsafe fn refused(&self) -> Option<i32> {
+        if !self.sound() {
+            Some(-6)
+        } else if self.store.len() < LEAST_STORE {
+            Some(-1)
+        } else {
+            None
+        }
+    }
+
+    // How many packets are held: one more than the last number.
+    fn packets(&self) -> usize {
+        self.packet[..self.count as usize].last().map_or(0, |k| *k as usize + 1)
+    }
+
+    unsafe fn add(&mut self, line: &mut String, p: Vec<u8>, strict: bool) {
+        let held = self.count as usize;
+        let mut rp = None;
         let r = told(|| {
-            if !sound(toc, count, framesize, &len) {
-                -6
-            } else if size < 61200 || p.len() > MOST {
+            if let Some(n) = self.refused() {
+                n
+            } else if p.len() > MOST {
                 -1
             } else {
-                opus_repacketizer_cat(&mut rp, p.as_ptr(), p.len() as i32)
+                opus_repacketizer_cat(rp.insert(self.collector()), p.as_ptr(), p.len() as i32)
             }
         });
         let r = if r.0 >= 0 && strict && dirty(&p) { (-20, 0, 0) } else { r };
         put(line, r);
-        if r.0 < 0 {
-            continue;
-        }
-        let mut at: usize = len[..held].iter().map(|l| *l as usize).sum();
+        let Some(mut rp) = rp.filter(|_| r.0 >= 0) else { return };
+        let number = self.packets() as u8;
+        let mut at: usize = self.len[..held].iter().map(|l| *l as usize).sum();
         let now = opus_repacketizer_get_nb_frames(&mut rp) as usize;
         for k in held..now {
-            len[k] = rp.len[k] as u16;
-            let frame = std::slice::from_raw_parts(rp.frames[k], len[k] as usize);
-            store[at..at + frame.len()].copy_from_slice(frame);
+            self.len[k] = rp.len[k] as u16;
+            self.packet[k] = number;
+            let frame = std::slice::from_raw_parts(rp.frames[k], self.len[k] as usize);
+            self.store[at..at + frame.len()].copy_from_slice(frame);
             at += frame.len();
         }
-        (toc, count, framesize) = (rp.toc, now as u16, rp.framesize as u16);
+        (self.toc, self.count, self.framesize) = (rp.toc, now as u16, rp.framesize as u16);
+        self.originals.push(p);
     }
-    write!(line, "; {toc} {count} {framesize}").unwrap();
-    for l in &len {
-        write!(line, " {l}").unwrap();
+
+    unsafe fn frames_held(&self) -> i32 {
+        if self.sound() { opus_repacketizer_get_nb_frames(&mut self.collector()) } else { -6 }
     }
+
+    // The output of a range into a room, whose bytes are put behind the number.
+    unsafe fn out_range(&self, line: &mut String, range: (i32, i32), room: usize, delim: bool, pad: bool) {
+        let mut out = vec![UNSET; room];
+        let n = self.refused().unwrap_or_else(|| {
+            if room > MOST {
+                return -1;
+            }
+            let (to, most) = (out.as_mut_ptr(), room as i32);
+            opus_repacketizer_out_range_impl(&mut self.collector(), range.0, range.1, to, most, delim as i32, pad as i32)
+        });
+        write!(line, "{n} ").unwrap();
+        hex(line, &out);
+    }
+
+    // The output of packet k: what unpadding the packet itself gives. Of one that was held before the first add there is only what is held: its frames.
+    unsafe fn out_packet(&self, line: &mut String, k: i32, room: usize) {
+        let refused = self.refused().or((room > MOST).then_some(-1));
+        let held = if refused.is_none() { self.packets() as i32 } else { 0 };
+        if !(0..held).contains(&k) {
+            write!(line, "{} ", refused.unwrap_or(-1)).unwrap();
+            return hex(line, &vec![UNSET; room]);
+        }
+        let given = held - self.originals.len() as i32;
+        if k < given {
+            let numbers = &self.packet[..self.count as usize];
+            let begin = numbers.iter().position(|n| *n as i32 == k).unwrap();
+            let end = numbers.iter().rposition(|n| *n as i32 == k).unwrap() + 1;
+            return self.out_range(line, (begin as i32, end as i32), room, false, false);
+        }
+        let mut original = self.originals[(k - given) as usize].clone();
+        let n = opus_packet_unpad(original.as_mut_ptr(), original.len() as i32);
+        assert!(n > 0, "the crate has accepted a packet that it does not unpad");
+        let mut out = vec![UNSET; room];
+        let fits = n as usize <= room;
+        if fits {
+            out[..n as usize].copy_from_slice(&original[..n as usize]);
+        }
+        write!(line, "{} ", if fits { n } else { -2 }).unwrap();
+        hex(line, &out);
+    }
+
+    // The collector with its lengths, and its packet numbers where they are asked for, and the store.
+    fn put(&self, line: &mut String, numbers: bool) {
+        write!(line, "; {} {} {}", self.toc, self.count, self.framesize).unwrap();
+        for l in &self.len {
+            write!(line, " {l}").unwrap();
+        }
+        for k in self.packet.iter().filter(|_| numbers) {
+            write!(line, " {k}").unwrap();
+        }
+        line.push_str(" ; ");
+        let set = self.store.iter().rposition(|b| *b != UNSET).map_or(0, |k| k + 1);
+        hex(line, &self.store[..set]);
+    }
+}
+
+unsafe fn add_all(held: &mut Held, i: &mut Input, line: &mut String, kinds: bool) -> Option<()> {
+    for _ in 0..i.u8()? {
+        let strict = kinds && i.u8()? != 0;
+        held.add(line, i.bytes()?, strict);
+    }
+    Some(())
+}
+
+unsafe fn adds(i: &mut Input, line: &mut String, kinds: bool) -> Option<()> {
+    let mut held = Held::read(i, false)?;
+    add_all(&mut held, i, line, kinds)?;
+    held.put(line, false);
+    Some(())
+}
+
+unsafe fn packet_out(i: &mut Input, line: &mut String) -> Option<()> {
+    let mut held = Held::read(i, true)?;
+    let (k, room) = (i.i32()?, i.room()?);
+    add_all(&mut held, i, line, true)?;
+    held.put(line, true);
     line.push_str(" ; ");
-    let set = store.iter().rposition(|b| *b != UNSET).map_or(0, |k| k + 1);
-    hex(line, &store[..set]);
+    held.out_packet(line, k, room);
+    Some(())
+}
+
+unsafe fn range_out(i: &mut Input, line: &mut String) -> Option<()> {
+    let mut held = Held::read(i, true)?;
+    let (delim, pad) = (i.u8()? != 0, i.u8()? != 0);
+    let (begin, end, room) = (i.i32()?, i.i32()?, i.room()?);
+    write!(line, "{} ; ", held.frames_held()).unwrap();
+    held.out_range(line, (begin, end), room, delim, pad);
+    line.push_str(" ; ");
+    held.add(line, i.bytes()?, false);
+    held.put(line, true);
     Some(())
 }
 
@@ -295,6 +436,8 @@ unsafe fn answer(i: &mut Input, kind: u8, line: &mut String) -> Option<()> {
         }
         17 => adds(i, line, false)?,
         18 => adds(i, line, true)?,
+        19 => packet_out(i, line)?,
+        20 => range_out(i, line)?,
         _ => return None,
     }
     Some(())
