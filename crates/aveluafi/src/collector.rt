@@ -1,5 +1,6 @@
 // The collector, lent to each call and updated there, as in the crate; exported. Each call takes it by reference, reads its head, lends its
-// lengths and numbers on to the core, and is proved by a walk of its code by hand (proofs/Lent.antt and Heads.antt have what the walks share).
+// lengths and numbers on to the core, and is proved by a walk of its code by hand; proofs/Lent.antt, LentTwo.antt and Heads.antt have what the
+// walks share, and both adds are one walk (proofs/collector/TwoAdds.antt).
 ghost use mathlib.Core.Path.{_≡_};
 ghost use mathlib.Core.Bool.{false};
 ghost use Rattle.opus_defines.specs.Numbers.{numberOf};

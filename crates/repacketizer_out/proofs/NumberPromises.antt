@@ -61,7 +61,8 @@ module _ (empty : State) (z : Empty empty) (l : List Arrival) (b : AllBytes l) (
   a-packet-held-is-never-refused-by-1 h k less n =
       let p = split-at k ones less in
       let is = output-of-a-packet h (p .before) (p .one) (p .after) (p .whole) in
-      output-not-1 false false (upperSix (getD (p .one .packet) 0 0)) (framesIn (p .one)) dst (sym (ap (λ (o : Outcome). o .report .number) is) ∙ rw (p .place) n)
+      output-not-1 false false (upperSix (getD (p .one .packet) 0 0)) (framesIn (p .one)) dst
+      (sym (ap (λ (o : Outcome). o .report .number) is) ∙ rw (p .place) n)
 
 -- A refused output by number changes nothing,
 pub refused-number-changes-nothing : (rp : OpusRepacketizer) (store : List ℕ) (number : ℤ) (dst : List ℕ) (n : ℕ)

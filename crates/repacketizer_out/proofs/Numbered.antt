@@ -181,7 +181,8 @@ module _ (six : ℕ) (frames : List (List ℕ)) (room n : ℕ) (packet : List �
       let end = below-few (k + 1) numbers in
       by-test (ltb (below k numbers) (below (k + 1) numbers))
       (λ t. let long = length-range (below k numbers) (below (k + 1) numbers) frames (omega (arith, end, count, same)) in
-      let some : 1 ≤ length (range (below k numbers) (below (k + 1) numbers) frames) = omega (arith, long, ltb-true (below k numbers) (below (k + 1) numbers) t) in
+      let some : 1 ≤ length (range (below k numbers) (below (k + 1) numbers) frames) =
+      omega (arith, long, ltb-true (below k numbers) (below (k + 1) numbers) t) in
       rw (← brought, t, le-leb (below (k + 1) numbers) (length frames) (omega (arith, end, count, same)))
       (some-output six (range (below k numbers) (below (k + 1) numbers) frames) room some))
       (λ t. let none : below (k + 1) numbers - below k numbers ≡ 0 = omega (arith, ltb-false (below k numbers) (below (k + 1) numbers) t) in

@@ -34,7 +34,8 @@ returns : tie.Need-returns
 returns c =
     let b = c .before .before in
     let s = b .before .before .before in
-    let few : length (take (s .args .n) (s .args .packet .now)) ≤ 48 = omega (arith, s .pre .1, length-take-le (s .args .n) (s .args .packet .now) (s .pre .0)) in
+    let few : length (take (s .args .n) (s .args .packet .now)) ≤ 48 =
+    omega (arith, s .pre .1, length-take-le (s .args .n) (s .args .packet .now) (s .pre .0)) in
     range-signed (s .args .k) (take (s .args .n) (s .args .packet .now)) few (b .count-below .ensures) (c .count-below2 .ensures)
 
 pub range-in-spec : {M : Type 1} → statement M
