@@ -74,7 +74,8 @@ static void agree(const struct aveluafi_repacketizer *rp, Bytes store, int32_t b
 }
 
 static bool same_collector(const struct aveluafi_repacketizer *a, const struct aveluafi_repacketizer *b) {
-    return a->toc == b->toc && a->nb_frames == b->nb_frames && a->framesize == b->framesize && memcmp(a->len, b->len, sizeof a->len) == 0;
+    return a->toc == b->toc && a->nb_frames == b->nb_frames && a->framesize == b->framesize && memcmp(a->len, b->len, sizeof a->len) == 0
+        && memcmp(a->packet, b->packet, sizeof a->packet) == 0;
 }
 
 // Whether a packet that can be read has a byte other than zero behind its frames.
@@ -90,6 +91,25 @@ static bool dirty(Bytes p) {
         }
     }
     return false;
+}
+
+// The packet that was accepted last can be had back by its number: what unpadding it gives, into a room of so many bytes, -2 into one less, and -1 for the
+// number behind it, whatever the room.
+static void restored(const struct aveluafi_repacketizer *rp, Bytes store, Bytes p, int32_t number) {
+    Bytes alone = block(p.len, 0), out = block(p.len, 0xee);
+    memcpy(alone.at, p.at, p.len);
+    int32_t n = aveluafi_packet_unpad(alone.at, alone.len, p.len).number;
+    require(n > 0 && aveluafi_repacketizer_out_packet(rp, store.at, store.len, number, out.at, n - 1) == AVELUAFI_BUFFER_TOO_SMALL,
+            "aveluafi_repacketizer_out_packet: a room too short by one is not -2");
+    require(aveluafi_repacketizer_out_packet(rp, store.at, store.len, number + 1, out.at, 0) == AVELUAFI_BAD_ARG,
+            "aveluafi_repacketizer_out_packet: a number that is not held is not -1");
+    for (int32_t i = 0; i < p.len; i++) {
+        require(out.at[i] == 0xee, "aveluafi_repacketizer_out_packet: a refusal has written");
+    }
+    require(aveluafi_repacketizer_out_packet(rp, store.at, store.len, number, out.at, n) == n && memcmp(out.at, alone.at, n) == 0,
+            "aveluafi_repacketizer_out_packet is not what unpadding the packet gives");
+    free(alone.at);
+    free(out.at);
 }
 
 // An ordinary add, held against a strict one to a copy of the collector: the same number, rule, place, collector and store, or -20 and nothing changed, where
@@ -119,8 +139,12 @@ static void collect(Collection *c) {
     memset(&rp, 0xcc, sizeof rp);
     aveluafi_repacketizer_init(&rp);
     Bytes store = block(AVELUAFI_LEAST_STORE, 0xcc);
+    int32_t accepted = 0;
     for (int i = 0; i < c->count; i++) {
         c->added[i] = add(&rp, c->packets[i], store);
+        if (c->added[i] == AVELUAFI_OK) {
+            restored(&rp, store, c->packets[i], accepted++);
+        }
         memset(c->packets[i].at, 0x99, c->packets[i].len);
     }
     c->held = aveluafi_repacketizer_get_nb_frames(&rp);
