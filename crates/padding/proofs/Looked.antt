@@ -3,7 +3,8 @@
 --     Framed, framed                           a packet that was read: its padding lies behind its frames, up to its end
 --     dirt-refused                             a packet that cannot be read is not dirty
 --     sum-is                                   the sum that was counted is the frames' together
---     dirt-told                                the largest byte behind the frames tells whether the packet is dirty
+--     dirt-most                                the largest byte tells whether there is dirt
+--     dirt-told                                what is behind the frames tells whether the packet is dirty
 -- Assumes nothing.
 use Prim.Native.Nat.{ℕ, _+_, _-_, _≤_, _<_, max}
 use native.Mathlib.Omega.{arith}
@@ -77,9 +78,9 @@ pub sum-is : (ns : List ℕ) (m : Sums) → m ≡ sumsOf ns → m .total ≡ tot
 unfolding sumsOf
 sum-is ns m e = rw e
 
-pub dirt-told : (sd : Bool) (p : List ℕ) (q : Packet) → Framed sd p q → (m : Sums) → m ≡ sumsOf (lengthsOf q) → (most : ℕ)
-    → most ≡ longest (take (q .taken - (q .first + m .total)) (drop (q .first + m .total) p)) → not (eqb most 0) ≡ dirtyPacket sd p
-dirt-told sd p q f m s most e =
-    let from = q .first + total (lengthsOf q) in
-    let x = rw (sum-is (lengthsOf q) m s) at e in
-    rw (f .padding, x) (sym (dirty-most (take (q .taken - from) (drop from p))))
+pub dirt-most : (s : List ℕ) (most : ℕ) → most ≡ longest s → not (eqb most 0) ≡ dirty s
+dirt-most s most e = rw e (sym (dirty-most s))
+
+pub dirt-told : (sd : Bool) (p : List ℕ) (q : Packet) → Framed sd p q → (m : Sums) → m ≡ sumsOf (lengthsOf q) → (d : Bool)
+    → d ≡ dirty (take (q .taken - (q .first + m .total)) (drop (q .first + m .total) p)) → d ≡ dirtyPacket sd p
+dirt-told sd p q f m s d e = rw (f .padding) (rw (sum-is (lengthsOf q) m s) at e)

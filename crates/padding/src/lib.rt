@@ -4,7 +4,7 @@ ghost use mathlib.Core.Bool.{true};
 ghost use Prim.Native.Nat.{_≤_, max};
 ghost use lib.ListN.{length};
 ghost use Rattle.opus_format.specs.Frames.{longest};
-ghost use Rattle.opus_format.specs.Dirt.{dirtyPacket};
+ghost use Rattle.opus_format.specs.Dirt.{dirty, dirtyPacket};
 ghost use Rattle.padding.specs.Asked.{asksPadding};
 use opus_defines::Verdict;
 
@@ -25,6 +25,13 @@ fn largest(s: &[u8]) -> u8
         i += 1;
     }
     most
+}
+
+// Whether one of these bytes is not zero.
+pub fn dirt_in(s: &[u8]) -> bool
+    ensures { λ r. ⌜ r ≡ dirty (now (s .entry)) ⌝ }
+{
+    largest(s) != 0
 }
 
 // Whether the first two bytes of a packet ask for padding: most packets do not, and need not be read for it.
@@ -55,7 +62,7 @@ fn read_dirty(data: &[u8], self_delimited: bool) -> bool
     let m = opus_header::sums_of(&lengths[..n]);
     let from = p.first + m.total;
     let end = p.taken;
-    largest(&data[from..end]) != 0
+    dirt_in(&data[from..end])
 }
 
 // The same, of any packet of at most 65,535 bytes: false where it cannot be read.

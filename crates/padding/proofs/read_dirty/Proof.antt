@@ -60,21 +60,21 @@ add-from c =
     let f = reading (told m) in
     omega (arith, summed m, f .block, f .within, entry (told m .before .before) .pre)
 
-sub-largest : tie.Need-sub-largest
-sub-largest c = let m = c .before .before in omega (arith, summed m, reading (told m) .block)
+sub-dirt-in : tie.Need-sub-dirt-in
+sub-dirt-in c = let m = c .before .before in omega (arith, summed m, reading (told m) .block)
 
-part-largest-start : tie.Need-part-largest-start
-part-largest-start c = let m = c .before .before in omega (arith, summed m, reading (told m) .block)
+part-dirt-in-start : tie.Need-part-dirt-in-start
+part-dirt-in-start c = let m = c .before .before in omega (arith, summed m, reading (told m) .block)
 
-part-largest-end : tie.Need-part-largest-end
-part-largest-end c = reading (told (c .before .before)) .within
+part-dirt-in-end : tie.Need-part-dirt-in-end
+part-dirt-in-end c = reading (told (c .before .before)) .within
 
 returns-2 : tie.Need-returns-2
 returns-2 c =
     let m = c .before .before .before .before in
     let t = told m in
     let a = entry (t .before .before) .args in
-    dirt-told (a .self-delimited) (a .«data» .now) (read t) (reading t) (m .sums-of .result) (m .sums-of .ensures) (c .largest .result) (c .largest .ensures)
+    dirt-told (a .self-delimited) (a .«data» .now) (read t) (reading t) (m .sums-of .result) (m .sums-of .ensures) (c .dirt-in .result) (c .dirt-in .ensures)
 
 pub read-dirty-spec : {M : Type 1} → statement M
 read-dirty-spec =
@@ -88,8 +88,8 @@ read-dirty-spec =
     slice-aggregate-sums-of
     sums-of-requires
     add-from
-    sub-largest
-    part-largest-start
-    part-largest-end
+    sub-dirt-in
+    part-dirt-in-start
+    part-dirt-in-end
     (λ c κs. search needs)
     returns-2)
