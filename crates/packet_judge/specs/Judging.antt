@@ -1,0 +1,44 @@
+-- What a packet is judged to be (document 02, M-110), in this order: unreadable, dirty, longer than needed, clean.
+use Prim.Native.Nat.{ℕ}
+use mathlib.Core.List.{List}
+use mathlib.Core.Bool.{Bool, cond}
+use lib.Dec.{ltb}
+use lib.ListN.{length, drop}
+use Rattle.opus_defines.specs.Bounds.{mostPacket}
+use Rattle.opus_defines.specs.declared.Refusal.{Refusal}
+use Rattle.opus_defines.specs.declared.Refusal.the-variants.{BadArg, BufferTooSmall, InvalidPacket, InvalidState, CutShort, DirtyPadding}
+use Rattle.opus_defines.specs.declared.Refusal.the-variants.{Unreadable as Breaks}
+use Rattle.opus_toc.specs.Toc.{upperSix}
+use Rattle.opus_format.specs.Frames.{cut}
+use Rattle.opus_format.specs.Reading.{Reading, refused, accepted, read}
+use Rattle.opus_format.specs.Dirt.{paddingOf, dirty}
+use Rattle.opus_header.specs.Compact.{compact}
+use Rattle.packet_judge.specs.declared.Judged.{Judged}
+use Rattle.packet_judge.specs.declared.Judged.the-variants.{Refused, Unreadable, Dirty, Longer, Clean}
+
+-- the bytes of the compact packet with the frames and the upper six TOC bits of the one that was read at the front of p
+unfoldable pub leastBytes : Bool → List ℕ → ℕ → List ℕ → ℕ → ℕ
+leastBytes sd p toc ns first = length (compact sd (upperSix toc) (cut ns (drop first p)))
+
+abbrev pub byLength : ℕ → ℕ → Judged
+byLength least taken = cond (ltb least taken) (Longer least) Clean
+
+-- the least length is compared with the bytes taken, not with those lent
+unfoldable pub judgeRead : Bool → List ℕ → Reading → Judged
+judgeRead sd p (refused rule place) = Unreadable rule place
+judgeRead sd p (accepted toc ns first taken) =
+    cond (dirty (paddingOf p (accepted toc ns first taken))) Dirty (byLength (leastBytes sd p toc ns first) taken)
+
+-- `judge_packet`
+unfoldable pub judged : Bool → List ℕ → Judged
+judged sd p = cond (ltb mostPacket (length p)) (Refused BadArg) (judgeRead sd p (read sd p))
+
+-- the verdict on a packet that the reader refuses, by its refusal; the contract of a function that is not public cites this
+abbrev pub unread : Refusal → Judged
+unread BadArg = Refused BadArg
+unread BufferTooSmall = Refused BufferTooSmall
+unread InvalidPacket = Refused InvalidPacket
+unread InvalidState = Refused InvalidState
+unread (Breaks rule place) = Unreadable rule place
+unread (CutShort rule) = Refused (CutShort rule)
+unread DirtyPadding = Refused DirtyPadding

@@ -1,0 +1,79 @@
+// The judge of packets (document 02, M-110): unreadable, with rule and place; dirty padding; longer than needed, with the least length; or clean.
+ghost use mathlib.Core.Path.{_≡_};
+ghost use mathlib.Core.Bool.{cond};
+ghost use Prim.Native.Nat.{ℕ, _+_, _≤_};
+ghost use lib.ListN.{length};
+ghost use Rattle.opus_size.specs.Size.{mostBytes};
+ghost use Rattle.opus_format.specs.Frames.{total, longest};
+ghost use Rattle.opus_format.specs.Reading.{accepted};
+ghost use Rattle.packet_judge.specs.Judging.{unread, byLength, judgeRead, judged as Judging·judged};
+use opus_defines::Refusal;
+use opus_defines::Rule;
+use opus_defines::Verdict;
+use opus_defines::wide;
+
+// What a packet is judged to be.
+pub enum Judged {
+    // It is too long to be looked at.
+    Refused(Refusal),
+    // The rule of RFC 6716 that it breaks, and the place of the first byte of the field concerned.
+    Unreadable(Rule, usize),
+    // A padding byte is not zero.
+    Dirty,
+    // Its frames and upper six TOC bits fit in so many bytes, which are fewer than it takes.
+    Longer(usize),
+    Clean,
+}
+
+// The verdict on a packet that the reader refuses.
+fn refused(e: Refusal) -> Judged
+    ensures { λ r. ⌜ r ≡ unread e ⌝ }
+{
+    let Refusal::Unreadable(rule, place) = e else {
+        return Judged::Refused(e);
+    };
+    Judged::Unreadable(rule, wide(place))
+}
+
+// The verdict on a packet with clean padding that takes so many bytes.
+fn by_length(least: usize, taken: usize) -> Judged
+    ensures { λ r. ⌜ r ≡ byLength least taken ⌝ }
+{
+    if least < taken {
+        return Judged::Longer(least);
+    }
+    Judged::Clean
+}
+
+// The verdict on a packet that was read: frames of lengths `ns` from `first` on, and `taken` bytes in all. No TOC byte makes a difference.
+fn judge_read(data: &[u8], self_delimited: bool, ns: &[u16], first: usize, taken: usize) -> Judged
+    requires some { ⌜ (1 ≤ length (now ns)) × (length (now ns) ≤ 48) × (longest (now ns) ≤ mostBytes) ⌝ }
+    requires block { ⌜ (first + total (now ns) ≤ taken) × (taken ≤ length (now «data»)) ⌝ }
+    ensures { λ r. ⌜ ((toc : ℕ) → r ≡ judgeRead «self_delimited» (now («data» .entry)) (accepted toc (now (ns .entry)) first taken)) ⌝ }
+{
+    let m = opus_header::sums_of(ns);
+    let from = first + m.total;
+    if padding::dirt_in(&data[from..taken]) {
+        return Judged::Dirty;
+    }
+    by_length(
+        opus_header::compact_bytes(ns.len(), m, self_delimited),
+        taken,
+    )
+}
+
+// Judges the packet at the front of `data`, which in the ordinary form is all of it. What stands behind a self-delimited packet is no part of it.
+pub fn judge_packet(data: &[u8], self_delimited: bool) -> Judged
+    ensures { λ r. ⌜ r ≡ Judging·judged «self_delimited» (now («data» .entry)) ⌝ }
+{
+    let mut lengths = [0u16; 48];
+    let p = opus::read_into(data, self_delimited, &mut lengths);
+    let v = p.verdict;
+    let Verdict::Refused(e) = v else {
+        let n = p.count;
+        let first = p.first;
+        let taken = p.taken;
+        return judge_read(data, self_delimited, &lengths[..n], first, taken);
+    };
+    refused(e)
+}
