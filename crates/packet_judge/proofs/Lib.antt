@@ -1,1 +1,5 @@
 pub mod Telling
+pub mod Verdicts
+pub mod Taken
+pub mod Promises
+pub mod Examples

@@ -78,7 +78,7 @@ module _ (sd : Bool) (p : List ℕ) (h : PacketHead) (l : List ℕ) (e : answerO
     pub inside : answer .count ≤ length (answer .lengths)
     pub some : (1 ≤ length (lengthsOf answer)) × (length (lengthsOf answer) ≤ 48) × (longest (lengthsOf answer) ≤ mostBytes)
     pub block : (answer .first + total (lengthsOf answer) ≤ answer .taken) × (answer .taken ≤ length p)
-    pub goes-by : judgeRead sd p (accepted (answer .toc) (lengthsOf answer) (answer .first) (answer .taken)) ≡ judged sd p
+    pub goes-by : {j : Judged} → j ≡ judgeRead sd p (accepted (answer .toc) (lengthsOf answer) (answer .first) (answer .taken)) → j ≡ judged sd p
 
   pub readable : Bytes p → h .verdict ≡ Accepted → Readable
   unfolding judged
@@ -90,7 +90,7 @@ module _ (sd : Bool) (p : List ℕ) (h : PacketHead) (l : List ℕ) (e : answerO
         inside = d .inside;
         some = (f .some, f .few, f .small);
         block = (f .block, f .within);
-        goes-by = rw (le-ltb 65535 (length p) (d .short), d .means);
+        goes-by = λ e. rw (le-ltb 65535 (length p) (d .short), d .means) e;
       }
 
 -- ---- the verdict on frames of lengths ns from `first` on, counted as m

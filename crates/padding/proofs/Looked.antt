@@ -1,6 +1,7 @@
 -- The bytes behind the frames, looked at.
 --     Most, most-none, most-more, most-all     the largest of the first bytes, as a loop goes over them
 --     Framed, framed                           a packet that was read: its padding lies behind its frames, up to its end
+--     dirt-is                                  dirt by the padding bytes of what was read
 --     dirt-refused                             a packet that cannot be read is not dirty
 --     sum-is                                   the sum that was counted is the frames' together
 --     dirt-most                                the largest byte tells whether there is dirt
@@ -20,7 +21,8 @@ use Rattle.opus_defines.specs.declared.Refusal.{Refusal}
 use Rattle.opus_defines.specs.declared.Verdict.the-variants.{Accepted, Refused}
 use Rattle.opus_size.specs.Size.{mostBytes}
 use Rattle.opus_format.specs.Frames.{total, longest}
-use Rattle.opus_format.specs.Dirt.{dirty, dirtyPacket}
+use Rattle.opus_format.specs.Reading.{read}
+use Rattle.opus_format.specs.Dirt.{paddingOf, dirty, dirtyPacket}
 use Rattle.opus_format.proofs.Lengths.{longest-more}
 use Rattle.opus_format.proofs.Facts.{facts}
 use Rattle.opus_format.proofs.Dirt.{dirty-most}
@@ -46,6 +48,10 @@ most-more s most i most′ m h a = record { within = omega arith; most-is = rw (
 pub most-all : (s : List ℕ) (most i : ℕ) → Most s most i → length s ≤ i → most ≡ longest s
 most-all s most i m h = rw (take-all i s h) at (m .most-is)
 
+pub dirt-is : (sd : Bool) (p : List ℕ) → dirtyPacket sd p ≡ dirty (paddingOf p (read sd p))
+unfolding dirtyPacket
+dirt-is sd p = refl
+
 -- a packet that was read, with the reader's answer q
 pub record Framed (sd : Bool) (p : List ℕ) (q : Packet) : Type 0 where
   pub inside : q .count ≤ length (q .lengths)
@@ -57,7 +63,6 @@ pub record Framed (sd : Bool) (p : List ℕ) (q : Packet) : Type 0 where
 
 module _ (sd : Bool) (p : List ℕ) (h : PacketHead) (l : List ℕ) (e : answerOf h l ≡ parsed sd p) where
   pub framed : Bytes p → h .verdict ≡ Accepted → Framed sd p (packetWith h l)
-  unfolding dirtyPacket
   framed bytes v =
       let q = packetWith h l in
       let d = parsed-accepted sd p q (lent-accepted sd p h l e v) v in
@@ -67,12 +72,11 @@ module _ (sd : Bool) (p : List ℕ) (h : PacketHead) (l : List ℕ) (e : answerO
         some = (f .some, f .few, f .small);
         block = f .block;
         within = f .within;
-        padding = rw (d .means) (ap dirty (drop-take (q .first + total (lengthsOf q)) (q .taken) p));
+        padding = rw (dirt-is sd p, d .means) (ap dirty (drop-take (q .first + total (lengthsOf q)) (q .taken) p));
       }
 
   pub dirt-refused : length p ≤ 65535 → {c : Refusal} → h .verdict ≡ Refused c → false ≡ dirtyPacket sd p
-  unfolding dirtyPacket
-  dirt-refused k {c} v = let r = parsed-refused sd p (answerOf h l) e c v k in rw (r .3)
+  dirt-refused k {c} v = let r = parsed-refused sd p (answerOf h l) e c v k in rw (dirt-is sd p, r .3)
 
 pub sum-is : (ns : List ℕ) (m : Sums) → m ≡ sumsOf ns → m .total ≡ total ns
 unfolding sumsOf

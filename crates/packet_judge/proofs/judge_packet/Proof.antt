@@ -37,7 +37,7 @@ judge-read-requires c κs = let r = reading (c .before) in (r .some, r .block)
 returns : tie.Need-returns
 returns c =
     let t = c .before .before in
-    c .judge-read .ensures (t .before .before .read-into .result .toc) ∙ reading t .goes-by
+    reading t .goes-by (c .judge-read .ensures (t .before .before .read-into .result .toc))
 
 returns-2 : tie.Need-returns-2
 returns-2 c =
