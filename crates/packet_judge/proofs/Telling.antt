@@ -25,7 +25,7 @@ use Rattle.opus_defines.specs.declared.Verdict.the-variants.{Accepted, Refused 
 use Rattle.opus_size.specs.Size.{mostBytes}
 use Rattle.opus_toc.specs.Toc.{upperSix}
 use Rattle.opus_format.specs.Frames.{cut, total, longest}
-use Rattle.opus_format.specs.Reading.{refused, accepted, read}
+use Rattle.opus_format.specs.Reading.{accepted}
 use Rattle.opus_format.specs.Dirt.{paddingOf, dirty}
 use Rattle.opus_format.proofs.Facts.{facts}
 use Rattle.opus.specs.Answers.{parsed, answerOf}

@@ -1,6 +1,5 @@
 // The judge of packets (document 02, M-110): unreadable, with rule and place; dirty padding; longer than needed, with the least length; or clean.
 ghost use mathlib.Core.Path.{_≡_};
-ghost use mathlib.Core.Bool.{cond};
 ghost use Prim.Native.Nat.{ℕ, _+_, _≤_};
 ghost use lib.ListN.{length};
 ghost use Rattle.opus_size.specs.Size.{mostBytes};

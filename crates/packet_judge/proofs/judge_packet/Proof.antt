@@ -1,7 +1,6 @@
 -- `packet_judge::judge_packet` meets its contract: the packet is read, and what was read is judged.
 -- Assumes nothing.
-use native.Mathlib.Omega.{arith}
-use mathlib.Core.Path.{_≡_, sym, _∙_}
+use mathlib.Core.Path.{sym, _∙_}
 use borrow.Author.Needs.{needs}
 use lib.Seq.{length-take-le}
 use Rattle.packet_judge.proofs.Telling.{refused-told, Readable, readable}
