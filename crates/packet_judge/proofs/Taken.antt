@@ -23,10 +23,10 @@ use Rattle.opus_header.specs.Compact.{compact}
 use Rattle.opus_header.proofs.Shortest.{shortest}
 use Rattle.opus_header.proofs.Spelled.{compact-spelled, compact-unpadded}
 use Rattle.opus_header.proofs.Rebuilt.{spelled-lasts, compact-of, never-longer}
-use Rattle.packet_judge.specs.Judging.{judged}
+use Rattle.packet_judge.specs.Judging.{said, judged}
 use Rattle.packet_judge.specs.Least.{Least}
 use Rattle.packet_judge.specs.declared.Judged.the-variants.{Longer, Clean}
-use Rattle.packet_judge.proofs.Verdicts.{said, said-longer, said-clean, says-longer, says-clean, judged-spelled}
+use Rattle.packet_judge.proofs.Verdicts.{said-longer, said-clean, says-longer, says-clean, judged-spelled}
 
 -- no packet is shorter than the compact one
 compact-least : (sd : Bool) (six : ℕ) (p : List ℕ) (frames : List (List ℕ)) → Spells sd six p frames

@@ -3,13 +3,13 @@
 --     refused-told                   a packet that the reader refuses
 --     Readable, readable             a packet that it accepts: where its frames lie, and what the verdict goes by
 --     frames-end                     the frames end where the padding begins
---     dirty-told, length-told        the verdict by the padding bytes, and by the least length
+--     bytes-told                     the verdict by the padding bytes and the least length
 -- Assumes nothing.
 use Prim.Native.Nat.{ℕ, _+_, _-_, _≤_}
 use native.Mathlib.Omega.{arith}
 use mathlib.Core.Path.{_≡_, refl, sym, ap, _∙_}
 use mathlib.Core.List.{List}
-use mathlib.Core.Bool.{Bool, true, false}
+use mathlib.Core.Bool.{Bool}
 use lib.Dec.{ltb}
 use lib.ListN.{length, take, drop}
 use borrow.Author.Tests.{ltb-true, ltb-false, le-ltb}
@@ -40,9 +40,9 @@ use Rattle.opus_header.specs.Forms.{compactBytes}
 use Rattle.opus_header.specs.declared.Sums.{Sums}
 use Rattle.opus_header.proofs.Standing.{compact-needs}
 use Rattle.padding.proofs.Looked.{sum-is}
-use Rattle.packet_judge.specs.Judging.{leastBytes, byLength, judgeRead, judged, unread}
+use Rattle.packet_judge.specs.Judging.{leastBytes, said, judgeRead, judged, unread}
 use Rattle.packet_judge.specs.declared.Judged.{Judged}
-use Rattle.packet_judge.specs.declared.Judged.the-variants.{Refused, Unreadable, Dirty}
+use Rattle.packet_judge.specs.declared.Judged.the-variants.{Refused, Unreadable}
 
 -- ---- refused
 pub other-unread : (e : Refusal) → ((rule : Rule) (place : ℕ) → e ≡ Breaks rule place → ⊥) → Refused e ≡ unread e
@@ -101,15 +101,11 @@ module _ (sd : Bool) (p ns : List ℕ) (first taken : ℕ) (within : (first + to
   padding-is : (toc : ℕ) → paddingOf p (accepted toc ns first taken) ≡ take (taken - (first + m .total)) (drop (first + m .total) p)
   padding-is toc = rw frames-end (drop-take (first + total ns) taken p)
 
-  module _ (d : Bool) (b : d ≡ dirty (take (taken - (first + m .total)) (drop (first + m .total) p))) where
-    pub dirty-told : d ≡ true → (toc : ℕ) → Dirty ≡ judgeRead sd p (accepted toc ns first taken)
-    unfolding judgeRead
-    dirty-told t toc = rw (padding-is toc, ← b, t)
-
-    pub length-told : d ≡ false → (least : ℕ) → least ≡ compactBytes (length ns) m sd → {j : Judged} → j ≡ byLength least taken
-        → (toc : ℕ) → j ≡ judgeRead sd p (accepted toc ns first taken)
-    unfolding judgeRead leastBytes
-    length-told t least n k toc =
-        let is : length (compact sd (upperSix toc) (cut ns (drop first p))) ≡ least =
-        compact-needs sd (upperSix toc) ns p first (omega arith) m e least n in
-        rw (padding-is toc, ← b, t, is) k
+  pub bytes-told : (d : Bool) → d ≡ dirty (take (taken - (first + m .total)) (drop (first + m .total) p)) → (least : ℕ)
+      → least ≡ compactBytes (length ns) m sd → {j : Judged} → j ≡ said d least taken
+      → (toc : ℕ) → j ≡ judgeRead sd p (accepted toc ns first taken)
+  unfolding judgeRead leastBytes
+  bytes-told d b least n k toc =
+      let is : length (compact sd (upperSix toc) (cut ns (drop first p))) ≡ least =
+      compact-needs sd (upperSix toc) ns p first (omega arith) m e least n in
+      rw (padding-is toc, ← b, is) k

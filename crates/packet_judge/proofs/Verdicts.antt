@@ -9,7 +9,7 @@ use Prim.Native.Nat.{ℕ, _+_, _≤_, _<_}
 use native.Mathlib.Omega.{arith}
 use mathlib.Core.Path.{_≡_, refl, sym, _∙_}
 use mathlib.Core.List.{List, _++_}
-use mathlib.Core.Bool.{Bool, true, false, cond}
+use mathlib.Core.Bool.{Bool, true, false}
 use lib.Dec.{ltb}
 use lib.ListN.{length, getD, length-append}
 use borrow.Author.Tests.{ltb-true, ltb-false, lt-ltb, le-ltb}
@@ -31,14 +31,10 @@ use Rattle.opus_header.specs.Forms.{compactBytes}
 use Rattle.opus_header.proofs.Forms.{compact-bytes, compact-size}
 use Rattle.opus_header.proofs.Standing.{compact-needs}
 use Rattle.padding.proofs.Looked.{dirt-is}
-use Rattle.packet_judge.specs.Judging.{leastBytes, byLength, judgeRead, judged}
-use Rattle.packet_judge.specs.declared.Judged.{Judged}
+use Rattle.packet_judge.specs.Judging.{leastBytes, said, judgeRead, judged}
 use Rattle.packet_judge.specs.declared.Judged.the-variants.{Refused, Unreadable, Dirty, Longer, Clean}
 
 -- ---- by the padding, the least length and the bytes taken
-abbrev pub said : Bool → ℕ → ℕ → Judged
-said dirt least taken = cond dirt Dirty (byLength least taken)
-
 by-said : {P : Type 0} (d : Bool) (least taken : ℕ) → (d ≡ true → said d least taken ≡ Dirty → P)
     → (d ≡ false → least < taken → said d least taken ≡ Longer least → P) → (d ≡ false → taken ≤ least → said d least taken ≡ Clean → P) → P
 by-said true least taken f g h = f refl refl

@@ -20,14 +20,15 @@ use Rattle.packet_judge.specs.declared.Judged.the-variants.{Refused, Unr
 unfoldable pub leastBytes : Bool → List ℕ → ℕ → List ℕ → ℕ → ℕ
 leastBytes sd p toc ns first = length (compact sd (upperSix toc) (cut ns (drop first p)))
 
-abbrev pub byLength : ℕ → ℕ → Judged
-byLength least taken = cond (ltb least taken) (Longer least) Clean
+-- by whether the padding is dirty, the least length and the bytes taken
+abbrev pub said : Bool → ℕ → ℕ → Judged
+said dirt least taken = cond dirt Dirty (cond (ltb least taken) (Longer least) Clean)
 
 -- the least length is compared with the bytes taken, not with those lent
 unfoldable pub judgeRead : Bool → List ℕ → Reading → Judged
 judgeRead sd p (refused rule place) = Unreadable rule place
 judgeRead sd p (accepted toc ns first taken) =
-    cond (dirty (paddingOf p (accepted toc ns first taken))) Dirty (byLength (leastBytes sd p toc ns first) taken)
+    said (dirty (paddingOf p (accepted toc ns first taken))) (leastBytes sd p toc ns first) taken
 
 -- `judge_packet`
 unfoldable pub judged : Bool → List ℕ → Judged

@@ -5,7 +5,7 @@ ghost use lib.ListN.{length};
 ghost use Rattle.opus_size.specs.Size.{mostBytes};
 ghost use Rattle.opus_format.specs.Frames.{total, longest};
 ghost use Rattle.opus_format.specs.Reading.{accepted};
-ghost use Rattle.packet_judge.specs.Judging.{unread, byLength, judgeRead, judged as Judging·judged};
+ghost use Rattle.packet_judge.specs.Judging.{unread, said, judgeRead, judged as Judging·judged};
 use opus_defines::Refusal;
 use opus_defines::Rule;
 use opus_defines::Verdict;
@@ -34,17 +34,20 @@ fn refused(e: Refusal) -> Judged
     Judged::Unreadable(rule, wide(place))
 }
 
-// The verdict on a packet with clean padding that takes so many bytes.
-fn by_length(least: usize, taken: usize) -> Judged
-    ensures { λ r. ⌜ r ≡ byLength least taken ⌝ }
+// The verdict on a packet that was read, by whether its padding is dirty, the least length and the bytes that it takes.
+fn verdict(dirt: bool, least: usize, taken: usize) -> Judged
+    ensures { λ r. ⌜ r ≡ said dirt least taken ⌝ }
 {
+    if dirt {
+        return Judged::Dirty;
+    }
     if least < taken {
         return Judged::Longer(least);
     }
     Judged::Clean
 }
 
-// The verdict on a packet that was read: frames of lengths `ns` from `first` on, and `taken` bytes in all. No TOC byte makes a difference.
+// The same from the bytes: frames of lengths `ns` from `first` on, and `taken` bytes in all. No TOC byte makes a difference.
 fn judge_read(data: &[u8], self_delimited: bool, ns: &[u16], first: usize, taken: usize) -> Judged
     requires some { ⌜ (1 ≤ length (now ns)) × (length (now ns) ≤ 48) × (longest (now ns) ≤ mostBytes) ⌝ }
     requires block { ⌜ (first + total (now ns) ≤ taken) × (taken ≤ length (now «data»)) ⌝ }
@@ -52,13 +55,9 @@ fn judge_read(data: &[u8], self_delimited: bool, ns: &[u16], first: usize, taken
 {
     let m = opus_header::sums_of(ns);
     let from = first + m.total;
-    if padding::dirt_in(&data[from..taken]) {
-        return Judged::Dirty;
-    }
-    by_length(
-        opus_header::compact_bytes(ns.len(), m, self_delimited),
-        taken,
-    )
+    let dirt = padding::dirt_in(&data[from..taken]);
+    let least = opus_header::compact_bytes(ns.len(), m, self_delimited);
+    verdict(dirt, least, taken)
 }
 
 // Judges the packet at the front of `data`, which in the ordinary form is all of it. What stands behind a self-delimited packet is no part of it.

@@ -6,7 +6,7 @@ use mathlib.Core.Path.{_≡_}
 use borrow.Author.Needs.{needs}
 use Rattle.opus_format.specs.Frames.{total}
 use Rattle.opus_header.proofs.Forms.{sums-few}
-use Rattle.packet_judge.proofs.Telling.{frames-end, dirty-told, length-told}
+use Rattle.packet_judge.proofs.Telling.{frames-end, bytes-told}
 use Rattle.packet_judge.proofs.judge_read.Statement.{statement}
 use Rattle.packet_judge.proofs.judge_read.Tie as tie
 
@@ -30,31 +30,21 @@ sub-dirt-in c = omega (arith, ends (c .before), entry (c .before) .pre .1 .0)
 part-dirt-in-start : tie.Need-part-dirt-in-start
 part-dirt-in-start c = omega (arith, ends (c .before), entry (c .before) .pre .1 .0)
 
-returns : tie.Need-returns
-returns c =
-    let d = c .before .dirt-in in
-    let m = c .before .before .before .before in
-    let s = entry m in
-    let a = s .args in
-    dirty-told (a .self-delimited) (a .«data» .now) (a .ns .now) (a .first) (a .taken) (s .pre .1) (m .sums-of .result) (m .sums-of .ensures) (d .result)
-    (d .ensures) (c .if1 .taken)
-
 compact-bytes-requires : tie.Need-compact-bytes-requires
 compact-bytes-requires c κs =
-    let m = c .before .before .before .before in
+    let m = c .before .before .before in
     let s = entry m in
     sums-few (s .args .ns .now) (m .sums-of .result) (m .sums-of .ensures) (s .pre .0 .1) (s .pre .0 .2)
 
-returns-2 : tie.Need-returns-2
-returns-2 c =
+returns : tie.Need-returns
+returns c =
     let b = c .before in
-    let i = b .before in
-    let d = i .before .dirt-in in
-    let m = i .before .before .before .before in
+    let d = b .before in
+    let m = d .before .before .before in
     let s = entry m in
     let a = s .args in
-    length-told (a .self-delimited) (a .«data» .now) (a .ns .now) (a .first) (a .taken) (s .pre .1) (m .sums-of .result) (m .sums-of .ensures) (d .result)
-    (d .ensures) (i .if1 .left) (b .compact-bytes .result) (b .compact-bytes .ensures) (c .by-length .ensures)
+    bytes-told (a .self-delimited) (a .«data» .now) (a .ns .now) (a .first) (a .taken) (s .pre .1) (m .sums-of .result) (m .sums-of .ensures)
+    (d .dirt-in .result) (d .dirt-in .ensures) (b .compact-bytes .result) (b .compact-bytes .ensures) (c .verdict .ensures)
 
 pub judge-read-spec : {M : Type 1} → statement M
 judge-read-spec =
@@ -66,7 +56,6 @@ judge-read-spec =
     part-dirt-in-start
     (λ c. search needs)
     (λ c κs. search needs)
-    returns
     compact-bytes-requires
     (λ c κs. search needs)
-    returns-2)
+    returns)
