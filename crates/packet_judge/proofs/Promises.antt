@@ -19,6 +19,7 @@ use Rattle.packet_judge.specs.Judging.{judged}
 use Rattle.packet_judge.specs.Least.{Least}
 use Rattle.packet_judge.specs.declared.Judged.the-variants.{Refused, Unreadable, Dirty, Longer, Clean}
 use Rattle.packet_judge.proofs.Verdicts.{judged-long, long-only, unreadable-only, unreadable-said, dirty-only, dirty-said}
+use Rattle.packet_judge.proofs.Within.{unreadable-within, longer-within}
 use Rattle.packet_judge.proofs.Taken.{longer-told, shorter-said, clean-told, compact-said, behind-same}
 
 module _ (sd : Bool) (p : List ℕ) where
@@ -35,6 +36,11 @@ module _ (sd : Bool) (p : List ℕ) where
     -- 2. It is dirty exactly where a strict add calls its padding dirty.
     pub dirty-exactly : (judged sd p ≡ Dirty → dirtyPacket sd p ≡ true) × (dirtyPacket sd p ≡ true → judged sd p ≡ Dirty)
     dirty-exactly = (dirty-only sd p short, dirty-said sd p short)
+
+    -- A place is within the packet or its end, and a least length is less than the packet's.
+    pub numbers-are-within : Bytes p
+        → ((rule : Rule) (place : ℕ) → judged sd p ≡ Unreadable rule place → place ≤ length p) × ((n : ℕ) → judged sd p ≡ Longer n → n < length p)
+    numbers-are-within bytes = (unreadable-within sd p short, longer-within sd p short bytes)
 
 -- a packet that the reader accepts
 module _ (sd : Bool) (p : List ℕ) (toc : ℕ) (ns : List ℕ) (first taken : ℕ) (bytes : Bytes p) (short : length p ≤ 65535)
