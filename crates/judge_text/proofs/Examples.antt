@@ -1,19 +1,23 @@
 -- The text of small captures by computation.
 -- Assumes nothing.
 use Prim.Native.Nat.{ℕ}
-use mathlib.Core.Path.{_≡_, refl}
-use mathlib.Core.List.{List, [], _∷_}
-use Rattle.opus_size.specs.Size.{lengthField}
+use native.Mathlib.Omega.{arith}
+use mathlib.Core.Path.{_≡_, refl, _∙_}
+use mathlib.Core.List.{List, [], _∷_, _++_}
+use Rattle.opus_defines.specs.declared.Rule.the-variants.{R5}
 use Rattle.opus_toc.specs.Toc.{duration}
 use Rattle.opus_format.specs.Reading.{read}
 use Rattle.opus_header.specs.Header.{header}
 use Rattle.opus_header.specs.Compact.{compact}
+use Rattle.packet_judge.specs.declared.Judged.the-variants.{Unreadable, Dirty, Longer, Clean}
 use Rattle.packet_judge.specs.Judging.{leastBytes, judgeRead, judged}
 use Rattle.capture.specs.Finding.{packetLength, packetAt, before, recordFrom, nextRecord}
 use Rattle.capture.specs.Reading.{recordBytes, readingsIn}
 use Rattle.show.specs.Text.{places, decimal}
-use Rattle.judge_text.specs.Text.{unreadableLabel, dirtyText, longerLabel, cleanText, verdictLine, verdictLines, verdictsOf, judgeText}
+use Rattle.judge_text.specs.Tallies.{tallyOf}
+use Rattle.judge_text.specs.Text.{unreadableLabel, dirtyText, longerLabel, cleanText, verdictLine, verdictLines, verdictsOf, judgements, judgeText}
 use Rattle.judge_text.specs.Text.{totalUnreadable, totalDirty, totalLonger, totalClean, totals}
+use Rattle.judge_text.proofs.Promises.{text-read}
 
 -- a byte, and records with the packets 03 00, 03 41 01 AA 07, 03 41 01 AA 00 and 00 AA
 abbrev sample : List ℕ
@@ -21,25 +25,41 @@ sample =
     0x09 ∷ 0x4b ∷ 0x9d ∷ 0x00 ∷ 0x00 ∷ 0x02 ∷ 0x03 ∷ 0x00 ∷ 0x4b ∷ 0x9d ∷ 0x01 ∷ 0x00 ∷ 0x05 ∷ 0x03 ∷ 0x41 ∷ 0x01 ∷ 0xaa ∷ 0x07 ∷ 0x4b ∷ 0x9d ∷ 0x02
     ∷ 0x00 ∷ 0x05 ∷ 0x03 ∷ 0x41 ∷ 0x01 ∷ 0xaa ∷ 0x00 ∷ 0x4b ∷ 0x9d ∷ 0x03 ∷ 0x00 ∷ 0x02 ∷ 0x00 ∷ 0xaa ∷ []
 
+pub example-verdicts : judgements sample ≡ Unreadable R5 1 ∷ Dirty ∷ Longer 2 ∷ Clean ∷ []
+unfolding verdictsOf judged judgeRead leastBytes read duration compact header packetAt packetLength readingsIn nextRecord recordFrom before recordBytes
+example-verdicts = refl
+
 -- "unreadable 5 1", "dirty", "longer 2", "clean", "total unreadable 1", "total dirty 1", "total longer 1", "total clean 1"
-pub example-text : judgeText sample ≡
+abbrev lines : List ℕ
+lines =
     117 ∷ 110 ∷ 114 ∷ 101 ∷ 97 ∷ 100 ∷ 97 ∷ 98 ∷ 108 ∷ 101 ∷ 32 ∷ 53 ∷ 32 ∷ 49 ∷ 10 ∷ 100 ∷ 105 ∷ 114 ∷ 116 ∷ 121 ∷ 10 ∷ 108 ∷ 111 ∷ 110 ∷ 103 ∷ 101
     ∷ 114 ∷ 32 ∷ 50 ∷ 10 ∷ 99 ∷ 108 ∷ 101 ∷ 97 ∷ 110 ∷ 10 ∷ 116 ∷ 111 ∷ 116 ∷ 97 ∷ 108 ∷ 32 ∷ 117 ∷ 110 ∷ 114 ∷ 101 ∷ 97 ∷ 100 ∷ 97 ∷ 98 ∷ 108 ∷ 101
     ∷ 32 ∷ 49 ∷ 10 ∷ 116 ∷ 111 ∷ 116 ∷ 97 ∷ 108 ∷ 32 ∷ 100 ∷ 105 ∷ 114 ∷ 116 ∷ 121 ∷ 32 ∷ 49 ∷ 10 ∷ 116 ∷ 111 ∷ 116 ∷ 97 ∷ 108 ∷ 32 ∷ 108 ∷ 111 ∷ 110
     ∷ 103 ∷ 101 ∷ 114 ∷ 32 ∷ 49 ∷ 10 ∷ 116 ∷ 111 ∷ 116 ∷ 97 ∷ 108 ∷ 32 ∷ 99 ∷ 108 ∷ 101 ∷ 97 ∷ 110 ∷ 32 ∷ 49 ∷ 10 ∷ []
-unfolding judgeText verdictLines verdictLine unreadableLabel dirtyText longerLabel cleanText totals totalUnreadable totalDirty totalLonger totalClean
 
-unfolding verdictsOf judged judgeRead leastBytes read duration compact header lengthField packetAt packetLength
+example-lines : let js = Unreadable R5 1 ∷ Dirty ∷ Longer 2 ∷ Clean ∷ [] in verdictLines js ++ totals (tallyOf js) ≡ lines
+unfolding verdictLines verdictLine unreadableLabel dirtyText longerLabel cleanText totals totalUnreadable totalDirty totalLonger totalClean decimal places
+example-lines = refl
 
-unfolding readingsIn nextRecord recordFrom before recordBytes decimal places
-example-text = refl
+pub example-text : judgeText sample ≡ lines
+example-text = text-read sample (omega arith) ∙ rw example-verdicts example-lines
 
 -- an empty capture has four totals of 0
-pub empty-text : judgeText [] ≡
+empty-verdicts : judgements [] ≡ []
+unfolding verdictsOf readingsIn nextRecord recordFrom before packetLength
+empty-verdicts = refl
+
+empty-lines : verdictLines [] ++ totals (tallyOf [])
+    ≡
     116 ∷ 111 ∷ 116 ∷ 97 ∷ 108 ∷ 32 ∷ 117 ∷ 110 ∷ 114 ∷ 101 ∷ 97 ∷ 100 ∷ 97 ∷ 98 ∷ 108 ∷ 101 ∷ 32 ∷ 48 ∷ 10 ∷ 116 ∷ 111 ∷ 116 ∷ 97 ∷ 108 ∷ 32 ∷ 100
     ∷ 105 ∷ 114 ∷ 116 ∷ 121 ∷ 32 ∷ 48 ∷ 10 ∷ 116 ∷ 111 ∷ 116 ∷ 97 ∷ 108 ∷ 32 ∷ 108 ∷ 111 ∷ 110 ∷ 103 ∷ 101 ∷ 114 ∷ 32 ∷ 48 ∷ 10 ∷ 116 ∷ 111 ∷ 116
     ∷ 97 ∷ 108 ∷ 32 ∷ 99 ∷ 108 ∷ 101 ∷ 97 ∷ 110 ∷ 32 ∷ 48 ∷ 10 ∷ []
-unfolding judgeText verdictLines totals totalUnreadable totalDirty totalLonger totalClean verdictsOf readingsIn nextRecord recordFrom before packetLength
+unfolding verdictLines totals totalUnreadable totalDirty totalLonger totalClean decimal places
+empty-lines = refl
 
-unfolding decimal places
-empty-text = refl
+pub empty-text : judgeText []
+    ≡
+    116 ∷ 111 ∷ 116 ∷ 97 ∷ 108 ∷ 32 ∷ 117 ∷ 110 ∷ 114 ∷ 101 ∷ 97 ∷ 100 ∷ 97 ∷ 98 ∷ 108 ∷ 101 ∷ 32 ∷ 48 ∷ 10 ∷ 116 ∷ 111 ∷ 116 ∷ 97 ∷ 108 ∷ 32 ∷ 100
+    ∷ 105 ∷ 114 ∷ 116 ∷ 121 ∷ 32 ∷ 48 ∷ 10 ∷ 116 ∷ 111 ∷ 116 ∷ 97 ∷ 108 ∷ 32 ∷ 108 ∷ 111 ∷ 110 ∷ 103 ∷ 101 ∷ 114 ∷ 32 ∷ 48 ∷ 10 ∷ 116 ∷ 111 ∷ 116
+    ∷ 97 ∷ 108 ∷ 32 ∷ 99 ∷ 108 ∷ 101 ∷ 97 ∷ 110 ∷ 32 ∷ 48 ∷ 10 ∷ []
+empty-text = text-read [] (omega arith) ∙ rw empty-verdicts empty-lines
