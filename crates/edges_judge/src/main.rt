@@ -103,7 +103,10 @@ fn broken() {
 fn behind() {
     delimited(b"nothing behind", b"\x00\x01\xaa");
     delimited(b"two bytes behind", b"\x00\x01\xaa\x55\x66");
-    delimited(b"the same as an ordinary one", b"\x03\x01\x01\xaa\x55");
+    delimited(
+        b"one frame as code 3, a byte behind",
+        b"\x03\x01\x01\xaa\x55",
+    );
     delimited(
         b"a padding byte 0, and 7 behind",
         b"\x03\x41\x01\x01\xaa\x00\x07",
