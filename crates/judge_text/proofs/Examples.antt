@@ -15,8 +15,8 @@ use Rattle.packet_judge.specs.Judging.{leastBytes, judgeRead, judged}
 use Rattle.capture.specs.Finding.{packetLength, packetAt, before, recordFrom, nextRecord}
 use Rattle.capture.specs.Reading.{recordBytes, readingsIn}
 use Rattle.show.specs.Text.{places, decimal}
-use Rattle.judge_text.specs.Tallies.{tallyOf}
-use Rattle.judge_text.specs.Text.{unreadableLabel, dirtyText, longerLabel, cleanText, verdictLine, verdictLines, verdictsOf, judgements, judgeText}
+use Rattle.judge_text.specs.Tallies.{tallyOf, none}
+use Rattle.judge_text.specs.Text.{unreadableLabel, dirtyText, longerLabel, cleanText, verdictLine, verdictLines, verdictsOf, judgements, judgeText, linesIn, partFrom, printed}
 use Rattle.judge_text.specs.Text.{totalUnreadable, totalDirty, totalLonger, totalClean, totals}
 use Rattle.judge_text.proofs.Promises.{text-read}
 
@@ -52,6 +52,12 @@ example-lines = refl
 
 pub example-text : judgeText sample ≡ lines
 example-text = text-read sample (omega arith) ∙ rw example-verdicts example-lines
+
+-- by parts, through 90 bytes: one or two lines at a time, then the totals
+pub example-parts : printed 12 sample 0 none 90 ≡ lines
+unfolding printed partFrom linesIn verdictLine unreadableLabel dirtyText longerLabel cleanText totals totalUnreadable totalDirty totalLonger totalClean
+    decimal places judged judgeRead leastBytes read duration compact header packetAt packetLength nextRecord recordFrom before recordBytes
+example-parts = refl
 
 -- an empty capture has four totals of 0
 empty-verdicts : judgements [] ≡ []
