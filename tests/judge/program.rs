@@ -2,7 +2,8 @@
 //!
 //!   program captures COUNT SEED WORK COMMAND..     generated captures, each to a run of `judge`, two at a time
 //!   program packets COUNT SEED WORK COMMAND..      generated packets, many to a run of `replay`
-//!   program edges                                  the packets and captures of M-110's own cases, judged here alone
+//!   program text CAPTURE                           what `judge` is to print for a capture, as crates/judge/stdout has it for crates/judge/stdin
+//!   program edges                                  the request's own cases, and the least lengths, by the independent judge alone
 //!
 //! WORK is a folder for what the command gets as its standard input.
 
