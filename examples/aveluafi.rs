@@ -124,10 +124,33 @@ struct RawRecord {
     passed: usize,
 }
 
+#[repr(C)]
+struct RawVerdict {
+    number: i32,
+    verdict: u16,
+    rule: u16,
+    place: usize,
+    least: usize,
+}
+
+/// What a packet is judged to be: the first of these that holds, in this order.
+#[derive(Clone, Copy, Debug, PartialEq, Eq)]
+pub enum Verdict {
+    /// It breaks a rule of RFC 6716, at a place.
+    Unreadable { rule: u16, place: usize },
+    /// A padding byte is not zero.
+    Dirty,
+    /// Its frames fit in so many bytes, fewer than it takes.
+    Longer(usize),
+    /// It is the shortest packet for its frames.
+    Clean,
+}
+
 #[link(name = "aveluafi", kind = "static")]
 extern "C" {
     fn aveluafi_version() -> i32;
     fn aveluafi_packet_parse_impl(data: *const u8, data_len: usize, self_delimited: bool) -> Packet;
+    fn aveluafi_packet_judge(data: *const u8, data_len: usize, self_delimited: bool) -> RawVerdict;
     fn aveluafi_repacketizer_init(rp: *mut Repacketizer);
     fn aveluafi_repacketizer_cat(rp: *mut Repacketizer, data: *const u8, data_len: usize, store: *mut u8, store_len: usize) -> Report;
     fn aveluafi_repacketizer_cat_strict(rp: *mut Repacketizer, data: *const u8, data_len: usize, store: *mut u8, store_len: usize) -> Report;
@@ -187,6 +210,17 @@ pub fn pad(data: &mut [u8], len: usize) -> Result<(), Refusal> {
 /// Strips the padding of the packet that fills `data`, and answers the bytes that are left in its front.
 pub fn unpad(data: &mut [u8]) -> Result<usize, Refusal> {
     reported(unsafe { aveluafi_packet_unpad(data.as_mut_ptr(), data.len(), length(data.len())) })
+}
+
+/// Judges a packet; what stands behind a self-delimited one is no part of it.
+pub fn judge(data: &[u8], self_delimited: bool) -> Result<Verdict, Refusal> {
+    let v = unsafe { aveluafi_packet_judge(data.as_ptr(), data.len(), self_delimited) };
+    answer(v.number).map(|_| match v.verdict {
+        1 => Verdict::Unreadable { rule: v.rule, place: v.place },
+        2 => Verdict::Dirty,
+        3 => Verdict::Longer(v.least),
+        _ => Verdict::Clean,
+    })
 }
 
 /// Frames of one kind, at most 120 ms, copied into a borrowed store.

@@ -127,6 +127,24 @@ struct aveluafi_packet aveluafi_packet_parse(const uint8_t *data, size_t data_le
 /* The same in the named delimiting. A self-delimited packet ends where it says; bytes behind it are not looked at. */
 struct aveluafi_packet aveluafi_packet_parse_impl(const uint8_t *data, size_t data_len, bool self_delimited);
 
+/* ---- the judge: what to tell the maker of a recorder (docs/RUNBOOK.md, 'What to tell the maker of a recorder') */
+
+#define AVELUAFI_UNREADABLE 1         /* a rule of RFC 6716 is broken, at a place */
+#define AVELUAFI_DIRTY 2              /* a padding byte is not zero */
+#define AVELUAFI_LONGER 3             /* the same frames fit in fewer bytes */
+#define AVELUAFI_CLEAN 4              /* the packet is the shortest there is for its frames */
+
+struct aveluafi_verdict {
+    int32_t number;                   /* 0, or the refusal; beside a refusal every other field is 0 */
+    uint16_t verdict;                 /* the first of the four that holds, in this order */
+    uint16_t rule;                    /* of an unreadable packet, as in struct aveluafi_report; else 0 */
+    size_t place;
+    size_t least;                     /* of one that is longer than needed, the bytes of the shortest packet with its frames; else 0 */
+};
+
+/* Judges the packet in the named delimiting. Bytes behind a self-delimited packet are no part of it. -1 above 65,535 bytes. */
+struct aveluafi_verdict aveluafi_packet_judge(const uint8_t *data, size_t data_len, bool self_delimited);
+
 /* ---- the collector
  *
  * The caller lends the struct and a store of at least 61,200 bytes, the same one to every call on it. Its frames stand one behind another in the

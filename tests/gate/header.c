@@ -161,6 +161,23 @@ static void in_place(void) {
     reports("multistream_packet_unpad broken", aveluafi_multistream_packet_unpad(streams, 5, 4, 2), AVELUAFI_INVALID_PACKET, 5, 4);
 }
 
+static void judging(void) {
+    static const uint8_t dirty[] = {3, 0x41, 1, 0xAA, 7}, longer[] = {3, 0x41, 1, 0xAA, 0}, self[] = {0, 1, 0xAA, 0x55, 0x66};
+    struct aveluafi_verdict v = aveluafi_packet_judge(packet, 3, false);
+    is("verdict unreadable", v.number == 0 && v.verdict == AVELUAFI_UNREADABLE && v.rule == 7 && v.place == 2 && v.least == 0, 1);
+    v = aveluafi_packet_judge(dirty, sizeof dirty, false);
+    is("verdict dirty", v.number == 0 && v.verdict == AVELUAFI_DIRTY && v.rule == 0 && v.place == 0 && v.least == 0, 1);
+    v = aveluafi_packet_judge(longer, sizeof longer, false);
+    is("verdict longer", v.number == 0 && v.verdict == AVELUAFI_LONGER && v.rule == 0 && v.place == 0 && v.least == 2, 1);
+    v = aveluafi_packet_judge(self, sizeof self, true);
+    is("verdict clean", v.number == 0 && v.verdict == AVELUAFI_CLEAN && v.rule == 0 && v.place == 0 && v.least == 0, 1);
+    static const uint8_t long_one[65536];
+    v = aveluafi_packet_judge(long_one, sizeof long_one, false);
+    is("verdict refused is zeros", v.number == AVELUAFI_BAD_ARG && v.verdict == 0 && v.rule == 0 && v.place == 0 && v.least == 0, 1);
+    v = aveluafi_packet_judge(NULL, 0, true);
+    is("NULL packet_judge", v.number == 0 && v.verdict == AVELUAFI_UNREADABLE && v.rule == 1 && v.place == 0, 1);
+}
+
 static void captures(void) {
     static const uint8_t file[] = {1, 2, 3, 4, 5, 0x4B, 0x9D, 41, 0, 6, 20, 21, 22, 23, 24, 25, 7};
     struct aveluafi_record r = aveluafi_next_record(file, sizeof file, 2);
@@ -213,6 +230,7 @@ int main(void) {
     reading();
     collecting();
     in_place();
+    judging();
     captures();
     nothing();
     is("the last", failures, 0);

@@ -3,3 +3,4 @@ pub mod Lent
 pub mod LentTwo
 pub mod Heads
 pub mod Examples
+pub mod Verdicts

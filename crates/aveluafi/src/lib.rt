@@ -3,5 +3,6 @@
 pub mod captures;
 pub mod collector;
 pub mod in_place;
+pub mod judging;
 pub mod reading;
 pub mod version;
