@@ -16,7 +16,8 @@ use Rattle.capture.specs.Finding.{packetLength, packetAt, before, recordFrom, n
 use Rattle.capture.specs.Reading.{recordBytes, readingsIn}
 use Rattle.show.specs.Text.{places, decimal}
 use Rattle.judge_text.specs.Tallies.{tallyOf, none}
-use Rattle.judge_text.specs.Text.{unreadableLabel, dirtyText, longerLabel, cleanText, verdictLine, verdictLines, verdictsOf, judgements, judgeText, linesIn, partFrom, printed}
+use Rattle.judge_text.specs.Text.{unreadableLabel, dirtyText, longerLabel, cleanText, verdictLine, verdictLines, verdictsOf, judgements, judgeText}
+use Rattle.judge_text.specs.Text.{linesIn, partFrom, printed}
 use Rattle.judge_text.specs.Text.{totalUnreadable, totalDirty, totalLonger, totalClean, totals}
 use Rattle.judge_text.proofs.Promises.{text-read}
 
