@@ -29,7 +29,8 @@ use Rattle.repacketizer_out.proofs.NumberPromises.{output-of-a-packet}
 use Rattle.borders.specs.Room.{intoRoom}
 
 -- what unpadding leaves in front of a packet that lies in a buffer of its own length
-unpadded-front : (p : List ℕ) → Bytes p → length p ≤ 65535 → (toc : ℕ) (ns : List ℕ) (first end : ℕ) → read false p ≡ accepted toc ns first end
+unpadded-front : (p : List ℕ) → Bytes p → length p ≤ 65535 → (toc : ℕ) (ns : List ℕ) (first end : ℕ)
+    → read false p ≡ accepted toc ns first end
     → front (unpadded p (pos (length p))) ≡ compact false (upperSix (getD p 0 0)) (framesOf p (read false p))
 unfolding framesOf
 unpadded-front p b short toc ns first end r =
@@ -49,7 +50,8 @@ as-unpadded dst p front sd six ordinary is = rw (ordinary, is)
 
 -- From any collector that holds nothing, after any list of adds, strict and ordinary ones, in either delimiting, refused ones among them: output of packet
 -- k, where the k-th accepted packet is an ordinary one, has the number and the bytes that unpadding that original would have given, into the same room.
-pub packet-output-is-unpad : (empty : State) → Empty empty → (l : List Arrival) → AllBytes l → (before : List Arrival) (a : Arrival) (after : List Arrival)
+pub packet-output-is-unpad : (empty : State) → Empty empty → (l : List Arrival) → AllBytes l
+    → (before : List Arrival) (a : Arrival) (after : List Arrival)
     → acceptedOf empty l ≡ before ++ (a ∷ after) → a .sd ≡ false → (dst : List ℕ) → length dst ≤ 65535
     → let full = afterAdds empty l in
     outNumbered (full .rp) (full .store) (pos (length before)) dst

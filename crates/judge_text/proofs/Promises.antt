@@ -40,7 +40,8 @@ printed-lines : (most : ℕ) (s : List ℕ) (at : ℕ) (t : Tally) (room : ℕ) 
 printed-lines zero s at t room h short f k = absurd (omega (arith, f .inside))
 printed-lines (suc most) s at t room h short f k =
     let p = partFrom s at t room in
-    let whole : restText s at t ≡ p .text ++ cond (p .done) [] (restText s (p .next) (p .tally)) = rw (part-read s at t room short) (text-parts s at t room) in
+    let whole : restText s at t ≡ p .text ++ cond (p .done) [] (restText s (p .next) (p .tally)) =
+    rw (part-read s at t room short) (text-parts s at t room) in
     printed-more most s at t room
     ∙ (same-behind (p .done) (p .text) (printed most s (p .next) (p .tally) room) (restText s (p .next) (p .tally))
     (λ d.

@@ -29,7 +29,8 @@ verdicts-end : (s : List ℕ) (a : NextRecord) → a .length ≡ 0 → verdictsO
 unfolding verdictsOf
 verdicts-end s a z = simp (eq-eqb (a .length) 0 z)
 
-verdicts-on : (s : List ℕ) (a : NextRecord) (more : List NextRecord) → (a .length ≡ 0 → ⊥) → verdictsOf s (a ∷ more) ≡ verdictOf s a ∷ verdictsOf s more
+verdicts-on : (s : List ℕ) (a : NextRecord) (more : List NextRecord) → (a .length ≡ 0 → ⊥)
+    → verdictsOf s (a ∷ more) ≡ verdictOf s a ∷ verdictsOf s more
 unfolding verdictsOf
 verdicts-on s a more f = simp (ne-eqb (a .length) 0 f)
 
@@ -86,7 +87,8 @@ no-line s at t room same line =
     (λ h z. same (rw (lines-none (length s) s at t room h z, append-nil) (rest-none s at t z))) line
 
 -- by the bytes left
-parts-in : (left : ℕ) (s : List ℕ) (at : ℕ) (t : Tally) (room : ℕ) → length s - at ≤ left → restText s at t ≡ thenRest s (linesIn (length s) s at t room)
+parts-in : (left : ℕ) (s : List ℕ) (at : ℕ) (t : Tally) (room : ℕ) → length s - at ≤ left
+    → restText s at t ≡ thenRest s (linesIn (length s) s at t room)
 parts-in zero s at t room h = no-line s at t room (λ e. e) (λ k n. absurd (n (none-behind s at (omega arith))))
 parts-in (suc left) s at t room h =
     no-line s at t room (λ e. e)

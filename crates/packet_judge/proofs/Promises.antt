@@ -24,13 +24,15 @@ use Rattle.packet_judge.proofs.Taken.{longer-told, shorter-said, clean-
 
 module _ (sd : Bool) (p : List ℕ) where
   -- 1. What is refused is longer than 65,535 bytes, and by -1,
-  pub refused-exactly : ((c : Refusal) → judged sd p ≡ Refused c → (c ≡ BadArg) × (65535 < length p)) × (65535 < length p → judged sd p ≡ Refused BadArg)
+  pub refused-exactly : ((c : Refusal) → judged sd p ≡ Refused c → (c ≡ BadArg) × (65535 < length p))
+      × (65535 < length p → judged sd p ≡ Refused BadArg)
   refused-exactly = (long-only sd p, judged-long sd p)
 
   module _ (short : length p ≤ 65535) where
     -- and any other packet is unreadable exactly where the reader refuses it, by the same rule and at the same place.
     pub unreadable-exactly : (rule : Rule) (place : ℕ)
-        → (judged sd p ≡ Unreadable rule place → read sd p ≡ refused rule place) × (read sd p ≡ refused rule place → judged sd p ≡ Unreadable rule place)
+        → (judged sd p ≡ Unreadable rule place → read sd p ≡ refused rule place)
+        × (read sd p ≡ refused rule place → judged sd p ≡ Unreadable rule place)
     unreadable-exactly rule place = (unreadable-only sd p short rule place, unreadable-said sd p short rule place)
 
     -- 2. It is dirty exactly where a strict add calls its padding dirty.
@@ -39,7 +41,8 @@ module _ (sd : Bool) (p : List ℕ) where
 
     -- A place is within the packet or its end, and a least length is less than the packet's.
     pub numbers-are-within : Bytes p
-        → ((rule : Rule) (place : ℕ) → judged sd p ≡ Unreadable rule place → place ≤ length p) × ((n : ℕ) → judged sd p ≡ Longer n → n < length p)
+        → ((rule : Rule) (place : ℕ) → judged sd p ≡ Unreadable rule place → place ≤ length p)
+        × ((n : ℕ) → judged sd p ≡ Longer n → n < length p)
     numbers-are-within bytes = (unreadable-within sd p short, longer-within sd p short bytes)
 
 -- a packet that the reader accepts
@@ -55,11 +58,13 @@ module _ (sd : Bool) (p : List ℕ) (toc : ℕ) (ns : List ℕ) (first taken : �
   -- than the bytes that it takes, and the length that is said is the least there is.
   pub longer-exactly :
       ((n : ℕ) → judged sd p ≡ Longer n → (dirtyPacket sd p ≡ false) × (n < taken) × Least sd six frames n)
-      × (dirtyPacket sd p ≡ false → (q : List ℕ) → Spells sd six q frames → length q < taken → (n : ℕ) × (judged sd p ≡ Longer n) × Least sd six frames n)
+      × (dirtyPacket sd p ≡ false → (q : List ℕ) → Spells sd six q frames → length q < taken
+      → (n : ℕ) × (judged sd p ≡ Longer n) × Least sd six frames n)
   longer-exactly = (longer-told sd p toc ns first taken bytes r short, shorter-said sd p toc ns first taken bytes r short)
 
   -- 4. It is clean exactly where the bytes that it takes are the compact packet of its frames.
-  pub clean-is-compact : (judged sd p ≡ Clean → take taken p ≡ compact sd six frames) × (take taken p ≡ compact sd six frames → judged sd p ≡ Clean)
+  pub clean-is-compact : (judged sd p ≡ Clean → take taken p ≡ compact sd six frames)
+      × (take taken p ≡ compact sd six frames → judged sd p ≡ Clean)
   clean-is-compact = (clean-told sd p toc ns first taken bytes r short, compact-said sd p toc ns first taken bytes r short)
 
 -- 5. What stands behind a self-delimited packet is no part of it.

@@ -94,7 +94,8 @@ module _ (sd : Bool) (p : List ℕ) (h : PacketHead) (l : List ℕ) (e : answerO
       }
 
 -- ---- the verdict on frames of lengths ns from `first` on, counted as m
-module _ (sd : Bool) (p ns : List ℕ) (first taken : ℕ) (within : (first + total ns ≤ taken) × (taken ≤ length p)) (m : Sums) (e : m ≡ sumsOf ns) where
+module _ (sd : Bool) (p ns : List ℕ) (first taken : ℕ) (within : (first + total ns ≤ taken) × (taken ≤ length p)) (m : Sums)
+    (e : m ≡ sumsOf ns) where
   pub frames-end : first + m .total ≡ first + total ns
   frames-end = ap (λ (n : ℕ). first + n) (sum-is ns m e)
 

@@ -36,7 +36,8 @@ use Rattle.packet_judge.specs.declared.Judged.the-variants.{Refused, Unr
 
 -- ---- by the padding, the least length and the bytes taken
 by-said : {P : Type 0} (d : Bool) (least taken : ℕ) → (d ≡ true → said d least taken ≡ Dirty → P)
-    → (d ≡ false → least < taken → said d least taken ≡ Longer least → P) → (d ≡ false → taken ≤ least → said d least taken ≡ Clean → P) → P
+    → (d ≡ false → least < taken → said d least taken ≡ Longer least → P)
+    → (d ≡ false → taken ≤ least → said d least taken ≡ Clean → P) → P
 by-said true least taken f g h = f refl refl
 by-said false least taken f g h =
     by-test (ltb least taken) (λ t. g refl (ltb-true least taken t) (rw t)) (λ t. h refl (ltb-false least taken t) (rw t))

@@ -7,12 +7,14 @@ use mathlib.Core.Bool.{true, false}
 use Rattle.packet_numbers.specs.Numbers.{numbered, numberAfter}
 
 -- none; one packet; one frame each; blocks
-pub rising-ones : map numbered ([] ∷ (0 ∷ 0 ∷ []) ∷ (0 ∷ 1 ∷ 2 ∷ []) ∷ (0 ∷ 1 ∷ 2 ∷ 2 ∷ []) ∷ []) ≡ true ∷ true ∷ true ∷ true ∷ []
+pub rising-ones : map numbered ([] ∷ (0 ∷ 0 ∷ []) ∷ (0 ∷ 1 ∷ 2 ∷ []) ∷ (0 ∷ 1 ∷ 2 ∷ 2 ∷ []) ∷ [])
+    ≡ true ∷ true ∷ true ∷ true ∷ []
 unfolding numbered
 rising-ones = refl
 
 -- not from 0; one left out; one that goes down; from 255, whose next in a byte would be 0
-pub other-ones : map numbered ((1 ∷ 1 ∷ []) ∷ (0 ∷ 2 ∷ []) ∷ (0 ∷ 1 ∷ 0 ∷ []) ∷ (255 ∷ 0 ∷ []) ∷ []) ≡ false ∷ false ∷ false ∷ false ∷ []
+pub other-ones : map numbered ((1 ∷ 1 ∷ []) ∷ (0 ∷ 2 ∷ []) ∷ (0 ∷ 1 ∷ 0 ∷ []) ∷ (255 ∷ 0 ∷ []) ∷ [])
+    ≡ false ∷ false ∷ false ∷ false ∷ []
 unfolding numbered
 other-ones = refl
 

@@ -111,7 +111,8 @@ max-small a b m =
     (λ s. lt-leb (max a b) m (omega (arith, leb-false a m s)) ∙ sym (rw s))
 
 -- where the numbers so far are sound, a jump is a step
-sorted : (small sound long step goes : Bool) → (sound ≡ true → step ≡ goes) → ((small && sound) && long) && step ≡ (small && long) && (sound && goes)
+sorted : (small sound long step goes : Bool) → (sound ≡ true → step ≡ goes)
+    → ((small && sound) && long) && step ≡ (small && long) && (sound && goes)
 sorted true true true step goes f = f refl
 sorted true true false step goes f = refl
 sorted true false true step goes f = refl
@@ -183,7 +184,8 @@ pub after-more : (packet : List ℕ) (n : ℕ) → (n ≡ 0 → ⊥) → getD pa
 after-more packet n z = rw (ne-eqb n 0 z)
 
 -- that of the last frame of sound numbers can be counted up
-pub last-small : (packet : List ℕ) (n : ℕ) → n ≤ length packet → n ≤ 48 → numbered (take n packet) ≡ true → 1 ≤ n → getD packet (n - 1) 0 < 255
+pub last-small : (packet : List ℕ) (n : ℕ) → n ≤ length packet → n ≤ 48 → numbered (take n packet) ≡ true → 1 ≤ n
+    → getD packet (n - 1) 0 < 255
 last-small packet n l few s some = omega (arith, numbered-below packet n some l s)
 
 -- ---- numbers stored, as the code does
@@ -201,5 +203,6 @@ module _ (packet : List ℕ) (at end k : ℕ) where
   numbers-length e = ap length e ∙ (length-sets (set packet at k) (at + 1) (replicate (end - (at + 1)) k) ∙ length-set packet at k)
 
   -- with the number that the code found
-  pub numbers-as : {k′ : ℕ} {l : List ℕ} → k ≡ k′ → l ≡ sets packet at (replicate (end - at) k) → l ≡ sets packet at (replicate (end - at) k′)
+  pub numbers-as : {k′ : ℕ} {l : List ℕ} → k ≡ k′ → l ≡ sets packet at (replicate (end - at) k)
+      → l ≡ sets packet at (replicate (end - at) k′)
   numbers-as e q = rw (← e) q
