@@ -4,3 +4,4 @@ pub mod LentTwo
 pub mod Heads
 pub mod Examples
 pub mod Verdicts
+pub mod Words

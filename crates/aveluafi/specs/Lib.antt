@@ -1,3 +1,4 @@
 pub mod Records
 pub mod Verdicts
 pub mod Version
+pub mod Words

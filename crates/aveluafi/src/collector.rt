@@ -8,6 +8,8 @@ ghost use Rattle.repacketizer.specs.Collector.{empty, nbFramesHeld};
 ghost use Rattle.repacketizer.specs.Adding.{addedReport, added, addedStrictly, addedBy};
 ghost use Rattle.repacketizer_out.specs.Output.{outRange, outAll};
 ghost use Rattle.repacketizer_out.specs.Numbered.{outNumbered};
+ghost use Rattle.aveluafi.specs.Words.{reportIn};
+use crate::word;
 use opus_defines::Report;
 use repacketizer::Head;
 use repacketizer::OpusRepacketizer;
@@ -25,9 +27,10 @@ pub extern "C" fn aveluafi_repacketizer_init(rp: &mut OpusRepacketizer)
 }
 
 // Adds an ordinary packet, strictly or not. One function for both kinds: with two the core would have two callers and be compiled as a function of its
-// own, which costs an add more than the flag. The packet's slice is read before anything is stored, so that it comes in registers.
-fn cat_by(rp: &mut OpusRepacketizer, data: &[u8], store: &mut [u8], strict: bool) -> Report
-    ensures { λ r. ⌜ (r ≡ addedReport (addedBy strict false (now (rp .entry)) (now («data» .entry)) (now (store .entry)) .answer))
+// own, which costs an add more than the flag. The packet's slice is read before anything is stored, so that it comes in registers; the report goes back in
+// one (word.rt).
+fn cat_by(rp: &mut OpusRepacketizer, data: &[u8], store: &mut [u8], strict: bool) -> u64
+    ensures { λ r. ⌜ (reportIn r ≡ addedReport (addedBy strict false (now (rp .entry)) (now («data» .entry)) (now (store .entry)) .answer))
         × (now (rp .exit) ≡ addedBy strict false (now (rp .entry)) (now («data» .entry)) (now (store .entry)) .answer .rp)
         × (now (store .exit) ≡ addedBy strict false (now (rp .entry)) (now («data» .entry)) (now (store .entry)) .store) ⌝ }
 {
@@ -41,7 +44,7 @@ fn cat_by(rp: &mut OpusRepacketizer, data: &[u8], store: &mut [u8], strict: bool
     rp.toc = a.toc;
     rp.nb_frames = a.count as u16;
     rp.framesize = a.framesize;
-    opus_defines::verdict_report(0, a.verdict)
+    word::verdict_word(a.verdict)
 }
 
 // Adds an ordinary packet, and answers 0; a refusal of the reader with rule and place.
@@ -55,7 +58,7 @@ pub extern "C" fn aveluafi_repacketizer_cat(
         × (now (rp .exit) ≡ added false (now (rp .entry)) (now («data» .entry)) (now (store .entry)) .answer .rp)
         × (now (store .exit) ≡ added false (now (rp .entry)) (now («data» .entry)) (now (store .entry)) .store) ⌝ }
 {
-    cat_by(rp, data, store, false)
+    word::report_in(cat_by(rp, data, store, false))
 }
 
 // The same, but that a packet with a padding byte other than zero is refused by -20, last of all (document 02, M-105).
@@ -69,7 +72,7 @@ pub extern "C" fn aveluafi_repacketizer_cat_strict(
         × (now (rp .exit) ≡ addedStrictly false (now (rp .entry)) (now («data» .entry)) (now (store .entry)) .answer .rp)
         × (now (store .exit) ≡ addedStrictly false (now (rp .entry)) (now («data» .entry)) (now (store .entry)) .store) ⌝ }
 {
-    cat_by(rp, data, store, true)
+    word::report_in(cat_by(rp, data, store, true))
 }
 
 // The frames held.

@@ -6,3 +6,4 @@ pub mod in_place;
 pub mod judging;
 pub mod reading;
 pub mod version;
+pub mod word;

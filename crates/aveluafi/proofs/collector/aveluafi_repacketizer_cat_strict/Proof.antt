@@ -9,4 +9,5 @@ use Rattle.aveluafi.proofs.collector.aveluafi_repacketizer_cat_strict.C
 pub aveluafi-repacketizer-cat-strict-spec : {M : Type 1} → statement M
 unfolding code.routine
 aveluafi-repacketizer-cat-strict-spec 𝓤 H 𝓜 𝓖 𝓡 =
-    kind-meets true 𝓤 H 𝓜 𝓖 𝓡 code.env name code.calls-aveluafi·collector·cat-by (code.unfolded 𝓤 H 𝓜 𝓡)
+    kind-meets true 𝓤 H 𝓜 𝓖 𝓡 code.env name code.calls-aveluafi·collector·cat-by code.calls-aveluafi·word·report-in
+    (code.unfolded 𝓤 H 𝓜 𝓡)

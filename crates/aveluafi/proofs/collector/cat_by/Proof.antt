@@ -1,7 +1,7 @@
 -- `aveluafi::collector::cat_by` meets its contract: a walk of its MIR, by hand. The borrow of the collector is opened; the head is read out of it, and
 -- the lengths and the numbers are lent out of it for the call of `add`, of which the proof knows only that it meets its contract; they come back at
 -- their last lists; the head that `add` returned is stored field by field; the borrow is closed at the collector that is there then; and
--- `verdict_report` makes the report.
+-- `verdict_word` makes the report, as one number.
 -- The store's borrow goes to `add` at its own lifetime, share and ghost name, for good: what `add` says of its last list is what is said here
 -- (`gave-slice`). Nothing is said of the packet and the flag at exit, so nothing is kept of them (`stay-dropped`).
 -- Assumes nothing.
@@ -33,8 +33,8 @@ use types.Part.{Part, agg, whole, sub, look-in, store-in}
 use sound.WpLaws.{FmC, fmOf}
 use denote.RattleType.{owns}
 use denote.Laws.{Is, shows}
-use denote.Plain.{uint-makes, bool-makes, bool-vals, bool-tells, bool-lawful}
-use denote.Builtin.{u8, u16, bool}
+use denote.Plain.{uint-lawful, bool-makes, bool-vals, bool-tells, bool-lawful}
+use denote.Builtin.{u8, u64, bool}
 use denote.Ref.{RefT, MutRef, ptr-vals, mut-tells}
 use denote.Slice.{sliceVal, slice-vals, MutSlice, ShrSlice, Room, mut-slice-tells, shr-slice-tells}
 use denote.Signature.{plain, shrSliceOf}
@@ -50,7 +50,6 @@ use denote.Triple.Table.{cited}
 use denote.Triple.Walked.{says, Stays, stay-ref, gave-slice, stay-dropped, walkOf, goes-ref, goes-gave-slice, goes-dropped, ends-at}
 use denote.Exit.{yes}
 use Rattle.opus_defines.specs.Numbers.{verdictReport}
-use Rattle.opus_defines.specs.declared.Report.{Report}
 use Rattle.repacketizer.specs.declared.OpusRepacketizer.{OpusRepacketizer}
 use Rattle.repacketizer.specs.declared.AddedHead.{AddedHead}
 use Rattle.repacketizer.specs.Adding.{addedReport, addedBy}
@@ -64,8 +63,7 @@ use Rattle.repacketizer.proofs.AddedHead.Laws as O′
 use Rattle.opus_toc.proofs.Samples8k.Laws as S′
 use Rattle.opus_defines.proofs.Verdict as E
 use Rattle.opus_defines.proofs.Verdict.Laws as E′
-use Rattle.opus_defines.proofs.Report as R
-use Rattle.opus_defines.proofs.Report.Laws as R′
+use Rattle.aveluafi.specs.Words.{reportIn}
 use Rattle.aveluafi.proofs.Lent.{MutLoan, Stand, opened, closed, freed, concluded, here, local}
 use Rattle.aveluafi.proofs.LentTwo.{lent-two-mut, back-two-mut}
 use Rattle.aveluafi.proofs.Heads.{vals, parts, head-vals, lengths-ref, packets-ref, head-is, to-toc, to-count, to-size, in-toc, in-count, in-size}
@@ -75,10 +73,10 @@ use Rattle.repacketizer.proofs.add as core
 use Rattle.repacketizer.proofs.add.Symbol as core-def
 use Rattle.repacketizer.proofs.add.Symbol.{name as #core}
 use Rattle.repacketizer.proofs.add.Met as core-thm
-use Rattle.opus_defines.proofs.verdict_report as report
-use Rattle.opus_defines.proofs.verdict_report.Symbol as report-def
-use Rattle.opus_defines.proofs.verdict_report.Symbol.{name as #report}
-use Rattle.opus_defines.proofs.verdict_report.Met as report-thm
+use Rattle.aveluafi.proofs.word.verdict_word as report
+use Rattle.aveluafi.proofs.word.verdict_word.Symbol as report-def
+use Rattle.aveluafi.proofs.word.verdict_word.Symbol.{name as #report}
+use Rattle.aveluafi.proofs.word.verdict_word.Met as report-thm
 use Rattle.aveluafi.proofs.collector.cat_by.Key.{name as #lent}
 use Rattle.aveluafi.proofs.collector.cat_by as f
 use Rattle.aveluafi.proofs.collector.cat_by.Statement as stated
@@ -196,21 +194,21 @@ module _ {M : Type 1} (𝓤 : URA M) (H : Heap 𝓤) (A : Atoms 𝓤) (W : Given
 
   -- the same of the verdict's report
   abbrev to-report : AddedHead → Reporter 𝓤 H A mem run .Ghost
-  to-report r = ((tt, tt, tt, (0, (r .verdict, tt)), (vint w16 0 ∷ [], (verdict-val r ∷ [], tt))), tt)
+  to-report r = ((tt, tt, tt, (r .verdict, tt), (verdict-val r ∷ [], tt)), tt)
 
   goes-report : (r : AddedHead) → Is E.the-row (r .verdict) (verdict-val r ∷ [])
       → ent 𝓤 (sem 𝓤 H A ftrue) (Reporter 𝓤 H A mem run .pre (to-report r))
   goes-report r is =
       qed W (‵ ftrue ∷ []) ∵
       owned ! E.the-row (Is E.the-row) (EL.makes E.the-type E′.the-plain 𝓤 H A) (r .verdict) (verdict-val r ∷ []) is $ fjoin ! $
-      owned ! u16 (Is u16) (uint-makes 𝓤 H A W w16) 0 (vint w16 0 ∷ []) (refl, lit< tt) $ fjoin ! $ nothing ! $ join ! $ frame ! $ done !
+      nothing ! $ join ! $ frame ! $ done !
 
-  abbrev Reports : AddedHead → Report → Type 0
-  Reports r m = m ≡ verdictReport 0 (r .verdict)
+  abbrev Reports : AddedHead → ℕ → Type 0
+  Reports r m = reportIn m ≡ verdictReport 0 (r .verdict)
 
-  report-says : (r : AddedHead) (m : Report)
-      → ent 𝓤 (ensured 𝓤 H A report.ended (report.clauses 𝓤 H A mem run) tt (0, (r .verdict, tt)) tt m) (fact 𝓤 (Reports r m))
-  report-says r m = exE 𝓤 _ (λ ws. snd∗ 𝓤 (sem 𝓤 H A (lasts report.ended tt (0, (r .verdict, tt)) ws)) (fact 𝓤 (Reports r m)))
+  report-says : (r : AddedHead) (m : ℕ)
+      → ent 𝓤 (ensured 𝓤 H A report.ended (report.clauses 𝓤 H A mem run) tt (r .verdict, tt) tt m) (fact 𝓤 (Reports r m))
+  report-says r m = exE 𝓤 _ (λ ws. snd∗ 𝓤 (sem 𝓤 H A (lasts report.ended tt (r .verdict, tt) ws)) (fact 𝓤 (Reports r m)))
 
   walk : FmC 𝓤 H (W .laws) C → Triple 𝓤 (C #core) (Core 𝓤 H A mem run) → Triple 𝓤 (C #report) (Reporter 𝓤 H A mem run)
       → Room u8 (length (packet .now)) → Room u8 (length (store .now)) → Is bool strict (vbool strict ∷ [])
@@ -288,14 +286,13 @@ module _ {M : Type 1} (𝓤 : URA M) (H : Heap 𝓤) (A : Atoms 𝓤) (W : Given
       -- the report. [the reference; its token; what the answer owns; the tokens; the store's last list; true; _15; …; to _1; …; room for _0; …]
       move ! (5 ∷ []) $ use1 W (raw (Reporter 𝓤 H A mem run .pre (to-report r))) (goes-report r (verdict-is r w is)) $
       calls-at ! fm (Reporter 𝓤 H A mem run) known′ (to-report r)
-      (and-then ! (lit ! tt)
-      (and-then ! (load ! (from ! (fld ! {τ = E′.mir} {d = 0} refl (stop !))) (look-in ! 22 (in-answer ! 0 E′.mir 0 refl))) (no-more !))) (λ v.
-      use1 W (later (some (λ (m : Report). (‵ ftrue ⊛ ‵ (R.the-row .own m (v ∷ [])))
-      ⊛ raw (ensured 𝓤 H A report.ended (report.clauses 𝓤 H A mem run) tt (0, (r .verdict, tt)) tt m)))) (id⊢ 𝓤 _) $ await ! tt $ pick ! (λ m.
+      (and-then ! (load ! (from ! (fld ! {τ = E′.mir} {d = 0} refl (stop !))) (look-in ! 22 (in-answer ! 0 E′.mir 0 refl))) (no-more !)) (λ v.
+      use1 W (later (some (λ (m : ℕ). (‵ ftrue ⊛ ‵ (u64 .own m (v ∷ [])))
+      ⊛ raw (ensured 𝓤 H A report.ended (report.clauses 𝓤 H A mem run) tt (r .verdict, tt) tt m)))) (id⊢ 𝓤 _) $ await ! tt $ pick ! (λ m.
       split ! $ move ! (1 ∷ []) $ use1 W (raw (fact 𝓤 (Reports r m))) (report-says r m) $
-      heard ! (Reports r m) (λ n. split ! $ drop ! $ peeks ! R.the-row (Is R.the-row) (shows 𝓤 H A R.the-row) m (v ∷ []) (λ is′.
+      heard ! (Reports r m) (λ n. split ! $ drop ! $ peeks ! u64 (Is u64) (shows 𝓤 H A u64) m (v ∷ []) (λ is′.
       -- [what the report owns; the reference; its token; what the answer owns; the tokens; the store's last list; _15; …]
-      land ! (here !) (init ! 36 refl (LL.lawful R.the-type R′.the-laws 𝓤 H A W .typed m _ is′ .0)) $
+      land ! (here !) (init ! 36 refl (uint-lawful 𝓤 H A W w64 .typed m _ is′ .0)) $
       returns ! (look ! 36 refl) $ freed ! 36 refl refl $ freed ! 34 refl refl $ freed ! 32 refl refl $ freed ! 30 refl refl $ freed ! 28 refl refl $
       freed ! 26 refl refl $ freed ! 24 refl refl $ freed ! 22 refl refl $ freed ! 20 refl refl $ freed ! 18 refl refl $ freed ! 16 refl refl $
       freed ! 14 refl refl $ freed ! 12 refl refl $ freed ! 10 refl refl $ freed ! 8 refl refl $ freed ! 6 refl refl $ free0 ! $
@@ -314,7 +311,7 @@ cat-by-spec 𝓤 H 𝓜 𝓖 𝓡 =
     let known = cited 𝓤 H (Core 𝓤 H (𝓖 .A) (𝓜 .mem) (𝓡 .run)) 𝓜 𝓡 code.env #core core-def.routine
     code.calls-repacketizer·add (core-thm.met 𝓤 H 𝓜 𝓖 𝓡) in
     let known′ = cited 𝓤 H (Reporter 𝓤 H (𝓖 .A) (𝓜 .mem) (𝓡 .run)) 𝓜 𝓡 code.env #report report-def.routine
-    code.calls-opus-defines·verdict-report (report-thm.met 𝓤 H 𝓜 𝓖 𝓡) in
+    code.calls-aveluafi·word·verdict-word (report-thm.met 𝓤 H 𝓜 𝓖 𝓡) in
     let clauses = f.clauses 𝓤 H (𝓖 .A) (𝓜 .mem) (𝓡 .run) in
     concluded 𝓤 H 𝓜 𝓖 𝓡 f.ended stayed clauses code.env #lent code.function (code.unfolded 𝓤 H 𝓜 𝓡) (
       goes-ref 𝓤 H (𝓖 .A) W 3 0 tt (plain (λ _. T.the-row)),
