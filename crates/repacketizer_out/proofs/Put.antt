@@ -1,5 +1,6 @@
 -- What is stored for a packet: a header, the frames' block behind it, and zeros where the packet is to fill the destination.
 --     sums-total, put-block                            the header and the block
+--     need-is                                          the bytes that the compact packet needs, as the code counts them
 --     put-refused, put-room, put-plain, put-padded     the packet: what the code stores is what the output leaves
 -- Assumes nothing.
 use Prim.Native.Nat.{ℕ, _+_, _-_, _≤_, _<_}
@@ -57,7 +58,7 @@ module _ (sd pad : Bool) (six : ℕ) (ns store : List ℕ) (from : ℕ) (dst : L
   joined-are = joined-cut ns (drop from store)
 
   module _ {m : Sums} (measured : m ≡ sumsOf ns) {need : ℕ} (asks : need ≡ compactBytes (length ns) m sd) where
-    need-is : need ≡ length (compact sd six frames)
+    pub need-is : need ≡ length (compact sd six frames)
     need-is =
         let bytes : length (joined frames) ≡ total ns = ap length joined-are ∙ length-part store from (total ns) block in
         let size : length (compact sd six frames) ≡ length (compactHeader sd six ns) + total ns = rw (compact-size sd six frames, lengths-are, bytes) in

@@ -1,0 +1,5 @@
+pub mod Reports
+pub mod Effects
+pub mod Nexts
+mod Lent
+pub mod Puts
