@@ -1,6 +1,6 @@
 // The collector, lent to each call and updated there, as in the crate; exported. Each call takes it by reference, reads its head, lends its
-// lengths and numbers on to the core, and is proved by a walk of its code by hand; proofs/Lent.antt, LentTwo.antt and Heads.antt have what the
-// walks share, and both adds are one walk (proofs/collector/TwoAdds.antt).
+// lengths and numbers on to the core, and is proved by a walk of its code by hand; the crate walks and proofs/Heads.antt have what the walks share,
+// and both adds are one walk (proofs/collector/TwoAdds.antt).
 ghost use mathlib.Core.Path.{_≡_};
 ghost use mathlib.Core.Bool.{false};
 ghost use Rattle.opus_defines.specs.Numbers.{numberOf};
@@ -8,8 +8,11 @@ ghost use Rattle.repacketizer.specs.Collector.{empty, nbFramesHeld};
 ghost use Rattle.repacketizer.specs.Adding.{addedReport, added, addedStrictly, addedBy};
 ghost use Rattle.repacketizer_out.specs.Output.{outRange, outAll};
 ghost use Rattle.repacketizer_out.specs.Numbered.{outNumbered};
+ghost use Rattle.cut_orders.specs.Orders.{outMany};
 ghost use Rattle.aveluafi.specs.Words.{reportIn};
 use crate::word;
+use cut_orders::Order;
+use cut_orders::OrderReport;
 use opus_defines::Report;
 use repacketizer::Head;
 use repacketizer::OpusRepacketizer;
@@ -161,4 +164,24 @@ pub extern "C" fn aveluafi_repacketizer_out_packet(
 {
     let r = repacketizer_out::by_number::range_of(rp.nb_frames, &rp.packet, number);
     aveluafi_repacketizer_out_range_impl(rp, store, r.begin, r.end, data, false, false)
+}
+
+// A list of cut orders: their packets one behind another, ordinary and without padding, and each order gets its length (document 02, M-106).
+#[no_mangle]
+pub extern "C" fn aveluafi_repacketizer_out_many(
+    rp: &OpusRepacketizer,
+    store: &[u8],
+    orders: &mut [Order],
+    data: &mut [u8],
+) -> OrderReport
+    ensures { λ r. ⌜ (r ≡ outMany (now (rp .entry)) (now (store .entry)) (now (orders .entry)) (now («data» .entry)) .report)
+        × (now (orders .exit) ≡ outMany (now (rp .entry)) (now (store .entry)) (now (orders .entry)) (now («data» .entry)) .orders)
+        × (now («data» .exit) ≡ outMany (now (rp .entry)) (now (store .entry)) (now (orders .entry)) (now («data» .entry)) .bytes) ⌝ }
+{
+    let h = Head {
+        toc: rp.toc,
+        nb_frames: rp.nb_frames,
+        framesize: rp.framesize,
+    };
+    cut_orders::out_many_lent(h, &rp.len, &rp.packet, store, orders, data)
 }

@@ -16,6 +16,7 @@ use replay_io::output::written;
 use replay_judge::judge_case;
 use replay_numbers::packet_case;
 use replay_numbers::range_case;
+use replay_orders::orders_case;
 use replay_reading::reading_case;
 
 // Which crate answers a kind. Only the collector needs the store.
@@ -34,6 +35,7 @@ fn case(
         18 => places_case(input, c, work, store, out, at, true),
         19 => packet_case(input, c, work, store, out, at),
         20 => range_case(input, c, work, store, out, at),
+        21 => orders_case(input, c, work, store, out, at),
         3..=6 | 13..=16 => in_place_case(input, c, work, out, at, kind),
         24 => judge_case(input, c, work, out, at),
         _ => reading_case(input, c, work, out, at, kind),
