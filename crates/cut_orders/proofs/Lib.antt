@@ -1,7 +1,6 @@
 pub mod Reports
 pub mod Effects
 pub mod Nexts
-mod Lent
 pub mod Puts
 pub mod Singly
 pub mod CutLaw

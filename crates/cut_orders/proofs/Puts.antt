@@ -19,7 +19,7 @@ use Rattle.opus_defines.specs.declared.Refusal.{Refusal}
 use Rattle.opus_defines.specs.declared.Refusal.the-variants.{BadArg, BufferTooSmall, InvalidPacket, InvalidState, Unreadable, CutShort, DirtyPadding}
 use Rattle.repacketizer_out.specs.Output.{outFrames}
 use Rattle.cut_orders.specs.Orders.{natural}
-use Rattle.cut_orders.proofs.Lent.{put-back}
+use Rattle.blocks.proofs.LentParts.{put-back}
 
 refused-none : (e : Refusal) → 0 ≡ natural (refusalNumber e)
 refused-none BadArg = refl

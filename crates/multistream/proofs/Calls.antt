@@ -41,7 +41,7 @@ use Rattle.multistream.specs.Streams.{streamsOf, passStreams}
 use Rattle.multistream.specs.Pad.{behind, padLast, padStreams, streamsPadded}
 use Rattle.multistream.specs.Unpad.{Repacked, unread, repacked, repackStreams, repacks, unpadStreams, streamsUnpadded}
 use Rattle.multistream.specs.Parts.{shiftedAnswer, verdictOf, packedOf}
-use Rattle.multistream.proofs.Lent.{put-back, sets-front}
+use Rattle.blocks.proofs.LentParts.{put-back, sets-front}
 
 -- ---- the number of streams, and the lengths
 module _ (s : List ℕ) (len new nb : ℤ) (k : ℕ) (e : streamsOf nb ≡ k) where

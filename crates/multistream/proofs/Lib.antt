@@ -1,4 +1,3 @@
-pub mod Lent
 pub mod Bounds
 pub mod Counted
 pub mod Passing

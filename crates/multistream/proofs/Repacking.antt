@@ -42,7 +42,7 @@ use Rattle.multistream.specs.Unpad.{Repacked, unread, repacked, ahead, r
 use Rattle.multistream.specs.Parts.{stream, compactBy, compactOf, takenBy, isAccepted, nextPlaces, verdictOf, packedOf}
 use Rattle.multistream.proofs.Bounds.{by-within}
 use Rattle.multistream.proofs.Passing.{shifted-none, shifted-more, shiftedVerdict, ahead-verdict}
-use Rattle.multistream.proofs.Lent.{sets-lent}
+use Rattle.blocks.proofs.LentParts.{sets-lent}
 
 -- ---- one stream
 accepted-verdict : (sd : Bool) (p : List ℕ) (r : Packet) → r ≡ parsed sd p → length p ≤ 65535 → isAccepted (read sd p) ≡ true
