@@ -2,15 +2,20 @@
 ghost use mathlib.Core.Path.{_≡_};
 ghost use mathlib.Core.List.{List, _++_};
 ghost use mathlib.Core.Bool.{true, false};
-ghost use Prim.Native.Nat.{ℕ, _-_, _<_, _≤_};
+ghost use Prim.Native.Nat.{ℕ, _+_, _-_, _<_, _≤_};
 ghost use lib.IntN.{pos};
 ghost use lib.ListN.{length, take, drop};
+ghost use lib.Seq.{sets};
 ghost use Rattle.opus_defines.specs.Numbers.{numberOf};
-ghost use Rattle.opus_defines.specs.Outcome.{leaves};
+ghost use Rattle.opus_defines.specs.Outcome.{refusal, leaves};
+ghost use Rattle.opus_defines.specs.declared.Refusal.{Refusal};
+ghost use Rattle.opus_size.specs.Size.{mostBytes};
 ghost use Rattle.opus_toc.specs.Toc.{upperSix};
+ghost use Rattle.opus_format.specs.Frames.{cut, total, longest};
+ghost use Rattle.opus_header.specs.Compact.{compact};
 ghost use Rattle.repacketizer.specs.Collector.{held, leastStore, framed};
 ghost use Rattle.repacketizer.specs.Parts.{collectorOf, bare};
-ghost use Rattle.repacketizer_out.specs.Output.{outFrames};
+ghost use Rattle.repacketizer_out.specs.Output.{range, outFrames};
 ghost use Rattle.cut_orders.specs.Orders.{Cutting, begun, orderReport, next, turns, done, natural, outMany};
 use opus_defines::Answer;
 use opus_defines::Count;
@@ -153,7 +158,39 @@ fn turns_of(m: OrderReport, n: usize) -> usize
     n
 }
 
-// Writes the packet of a range into what the destination has left behind its first `at` bytes, and answers its length.
+// Writes the packet of frames of lengths `ns`, which stand in `store` from a place on, to the front of `data`, which has room for it.
+fn put_frames(data: &mut [u8], toc: u8, ns: &[u16], store: &[u8], from: usize) -> usize
+    requires some { ⌜ (1 ≤ length (now ns)) × (length (now ns) ≤ 48) × (longest (now ns) ≤ mostBytes) ⌝ }
+    requires block { ⌜ from + total (now ns) ≤ length (now store) ⌝ }
+    requires room { ⌜ length (compact false (upperSix toc) (cut (now ns) (drop from (now store)))) ≤ length (now «data») ⌝ }
+    ensures length { λ r. ⌜ r ≡ length (compact false (upperSix toc) (cut (now (ns .entry)) (drop from (now (store .entry))))) ⌝ }
+    ensures bytes { λ _. ⌜ now («data» .exit)
+        ≡ sets (now («data» .entry)) 0 (compact false (upperSix toc) (cut (now (ns .entry)) (drop from (now (store .entry))))) ⌝ }
+{
+    let m = opus_header::sums_of(ns);
+    let bytes = m.total;
+    let form = opus_header::compact_form(ns.len());
+    let at = opus_header::put_header(data, toc, ns, m, form, false);
+    blocks::copy_into(data, at, store, from, bytes);
+    at + bytes
+}
+
+// The same for the frames b..e of a collector.
+fn put_range(h: Head, len: &[u16], store: &[u8], b: usize, e: usize, data: &mut [u8]) -> usize
+    requires collector { ⌜ (length (now len) ≡ 48) × (framed (bare h (now len)) ≡ true) ⌝ }
+    requires range { ⌜ (b < e) × (e ≤ h .«nb_frames») ⌝ }
+    requires store { ⌜ leastStore ≤ length (now store) ⌝ }
+    requires room { ⌜ length (compact false (upperSix (h .toc)) (range b e (held (bare h (now len)) (now store)))) ≤ length (now «data») ⌝ }
+    ensures length { λ r. ⌜ r ≡ length (compact false (upperSix (h .toc)) (range b e (held (bare h (now (len .entry))) (now (store .entry))))) ⌝ }
+    ensures bytes { λ _. ⌜ now («data» .exit)
+        ≡ sets (now («data» .entry)) 0 (compact false (upperSix (h .toc)) (range b e (held (bare h (now (len .entry))) (now (store .entry))))) ⌝ }
+{
+    let before = repacketizer::measure(&len[..b]);
+    put_frames(data, h.toc, &len[b..e], store, wide(before.total))
+}
+
+// The single output of an order that the first pass has not refused, into what the destination has left behind its first `at` bytes; answers its length.
+// No test is made a second time.
 fn put_order(
     h: Head,
     len: &[u16; 48],
@@ -165,6 +202,8 @@ fn put_order(
 ) -> u32
     requires collector { ⌜ framed (bare h (now len)) ≡ true ⌝ }
     requires buffers { ⌜ (leastStore ≤ length (now store)) × (length (now «data») ≤ 65535) × (at ≤ length (now «data»)) ⌝ }
+    requires taken { ⌜ ((e : Refusal)
+        → outFrames false false (upperSix (h .toc)) (held (bare h (now len)) (now store)) begin end (length (now «data») - at) ≡ refusal e → ⊥) ⌝ }
     ensures length { λ r. ⌜ r
         ≡ natural (leaves (drop at (now («data» .entry)))
         (outFrames false false (upperSix (h .toc)) (held (bare h (now (len .entry))) (now (store .entry))) begin end (length (now («data» .entry)) - at))
@@ -174,17 +213,8 @@ fn put_order(
         (outFrames false false (upperSix (h .toc)) (held (bare h (now (len .entry))) (now (store .entry))) begin end (length (now («data» .entry)) - at))
         .bytes ⌝ }
 {
-    let Count::Is(b) = opus_defines::count_of(begin) else {
-        return 0;
-    };
-    let Count::Is(e) = opus_defines::count_of(end) else {
-        return 0;
-    };
     let from = at as usize;
-    let a = repacketizer_out::out_frames(h, len, store, b, e, &mut data[from..], false, false);
-    let Answer::Number(n) = a else {
-        return 0;
-    };
+    let n = put_range(h, len, store, begin as usize, end as usize, &mut data[from..]);
     n as u32
 }
 

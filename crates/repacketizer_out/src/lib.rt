@@ -89,7 +89,7 @@ fn put_frames(
 }
 
 // The range begin..end of the frames held.
-pub fn out_frames(
+fn out_frames(
     h: Head,
     len: &[u16],
     store: &[u8],
