@@ -12,6 +12,7 @@ pub const VERSION: i32 = 3;
 
 pub const MOST_FRAMES: usize = 48;
 pub const LEAST_STORE: usize = 61200;
+pub const MOST_ORDERS: usize = 48;
 
 /// Why a call was refused.
 #[derive(Clone, Copy, Debug, PartialEq, Eq)]
@@ -28,6 +29,14 @@ pub enum Refusal {
     InvalidState,
     /// A strict add: a padding byte is not zero.
     DirtyPadding,
+    /// Of many cuts, the one at this position, from 1: it is no range of the frames held.
+    BadOrder {
+        position: u32,
+    },
+    /// Its packet is longer than what the cuts before it have left of the destination.
+    OrderTooLong {
+        position: u32,
+    },
     /// A number that this file does not know: the archive that was linked is of another version.
     Unknown(i32),
 }
@@ -36,8 +45,8 @@ impl Refusal {
     /// The header's number.
     pub fn number(self) -> i32 {
         match self {
-            Refusal::BadArg => -1,
-            Refusal::BufferTooSmall => -2,
+            Refusal::BadArg | Refusal::BadOrder { .. } => -1,
+            Refusal::BufferTooSmall | Refusal::OrderTooLong { .. } => -2,
             Refusal::InvalidPacket | Refusal::Unreadable { .. } => -4,
             Refusal::InvalidState => -6,
             Refusal::DirtyPadding => -20,
@@ -55,6 +64,8 @@ impl fmt::Display for Refusal {
             Refusal::Unreadable { rule, place } => write!(f, "invalid packet: RFC 6716 rule R{rule} at byte {place}"),
             Refusal::InvalidState => write!(f, "invalid state of the collector"),
             Refusal::DirtyPadding => write!(f, "dirty padding: a padding byte is not zero"),
+            Refusal::BadOrder { position } => write!(f, "order {position}: no range of the frames held"),
+            Refusal::OrderTooLong { position } => write!(f, "order {position}: destination too small"),
             Refusal::Unknown(number) => write!(f, "refused by {number}, a number of another version"),
         }
     }
@@ -84,6 +95,28 @@ struct Report {
 fn reported(r: Report) -> Result<usize, Refusal> {
     match r {
         Report { number: -4, rule: rule @ 1.., place } => Err(Refusal::Unreadable { rule, place }),
+        _ => answer(r.number),
+    }
+}
+
+#[repr(C)]
+#[derive(Clone, Copy)]
+struct Order {
+    begin: i32,
+    end: i32,
+    length: u32,
+}
+
+#[repr(C)]
+struct OrderReport {
+    number: i32,
+    position: u32,
+}
+
+fn ordered(r: OrderReport) -> Result<usize, Refusal> {
+    match r {
+        OrderReport { number: -1, position: position @ 1.. } => Err(Refusal::BadOrder { position }),
+        OrderReport { number: -2, position: position @ 1.. } => Err(Refusal::OrderTooLong { position }),
         _ => answer(r.number),
     }
 }
@@ -173,6 +206,15 @@ extern "C" {
         data: *mut u8,
         data_len: usize,
     ) -> i32;
+    fn aveluafi_repacketizer_out_many(
+        rp: *const Repacketizer,
+        store: *const u8,
+        store_len: usize,
+        orders: *mut Order,
+        orders_len: usize,
+        data: *mut u8,
+        data_len: usize,
+    ) -> OrderReport;
     fn aveluafi_packet_pad(data: *mut u8, data_len: usize, len: i32, new_len: i32) -> Report;
     fn aveluafi_packet_unpad(data: *mut u8, data_len: usize, len: i32) -> Report;
     fn aveluafi_next_record(data: *const u8, data_len: usize, start: usize) -> RawRecord;
@@ -263,6 +305,37 @@ impl<'a> Collector<'a> {
     pub fn write_packet(&self, number: usize, data: &mut [u8]) -> Result<usize, Refusal> {
         let (store, n) = (self.store.as_ptr(), self.store.len());
         answer(unsafe { aveluafi_repacketizer_out_packet(&self.rp, store, n, length(number), data.as_mut_ptr(), data.len()) })
+    }
+    /// Many ranges in one call, at most 48, their packets one behind another from the front of `data`. Ranges may overlap and repeat. If one is refused,
+    /// nothing is written, and the refusal says at which position, from 1.
+    pub fn write_many(&self, frames: &[Range<usize>], data: &mut [u8]) -> Result<Cuts, Refusal> {
+        // one more than the call takes, so that it is the call that refuses them
+        let mut orders = [Order { begin: 0, end: 0, length: 0 }; MOST_ORDERS + 1];
+        for (order, range) in orders.iter_mut().zip(frames) {
+            (order.begin, order.end) = (length(range.start), length(range.end));
+        }
+        let (store, n, count) = (self.store.as_ptr(), self.store.len(), frames.len().min(orders.len()));
+        let r = unsafe { aveluafi_repacketizer_out_many(&self.rp, store, n, orders.as_mut_ptr(), count, data.as_mut_ptr(), data.len()) };
+        ordered(r).map(|bytes| Cuts { bytes, count, orders })
+    }
+}
+
+/// Packets cut in one call.
+pub struct Cuts {
+    /// Of all of them.
+    pub bytes: usize,
+    count: usize,
+    orders: [Order; MOST_ORDERS + 1],
+}
+
+impl Cuts {
+    /// The place of each packet in the bytes that were written, in the order of the ranges.
+    pub fn packets(&self) -> impl Iterator<Item = Range<usize>> + '_ {
+        self.orders.iter().take(self.count).scan(0, |at, order| {
+            let begin = *at;
+            *at += order.length as usize;
+            Some(begin..*at)
+        })
     }
 }
 

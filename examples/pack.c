@@ -1,5 +1,6 @@
-/* Packs three packets into one, sees three others refused, pads and strips the packet in place, reads its frames back, cuts one out again and restores one
- * of the packets, over include/aveluafi.h. examples/run builds and runs it; pack.rs does the same in Rust and prints the same text. */
+/* Packs three packets into one, sees three others refused, pads and strips the packet in place, reads its frames back, cuts one out again, then all of them
+ * in one call, and restores one of the packets, over include/aveluafi.h. examples/run builds and runs it; pack.rs does the same in Rust and prints the same
+ * text. */
 #include "aveluafi.h"
 
 #include <stdio.h>
@@ -104,6 +105,20 @@ int main(void) {
     /* Any range of the frames held can be written, again and again; here the second alone. */
     int32_t cut = need("out_range", aveluafi_repacketizer_out_range(&rp, store, sizeof store, 1, 2, buffer, sizeof buffer));
     printf("cut frame 1 out: a packet of %d bytes, %s\n", (int)cut, same(buffer, packets[1], (size_t)cut));
+
+    /* Many ranges in one call, up to 48, their packets one behind another: here each frame by itself. If one is refused, nothing is written, and the answer
+     * says which, from 1. */
+    struct aveluafi_order orders[3] = {{0, 1, 0}, {1, 2, 0}, {2, 3, 0}};
+    struct aveluafi_order_report cuts = aveluafi_repacketizer_out_many(&rp, store, sizeof store, orders, 3, buffer, (size_t)before - 1);
+    if (cuts.number == AVELUAFI_BUFFER_TOO_SMALL)
+        printf("refused 3 cuts into %d bytes: order %d: destination too small\n", before - 1, (int)cuts.position);
+    cuts = aveluafi_repacketizer_out_many(&rp, store, sizeof store, orders, 3, buffer, (size_t)before);
+    printf("made 3 cuts into %d bytes\n", (int)need("out_many", cuts.number));
+    at = 0;
+    for (int i = 0; i < 3; i++) {
+        printf("order %d: a packet of %d bytes at %d, %s\n", i + 1, (int)orders[i].length, (int)at, same(buffer + at, packets[i], orders[i].length));
+        at += orders[i].length;
+    }
 
     /* Or the packets that were added, by their numbers: the refused ones have none, so the third that was accepted is number 2. */
     int32_t third = need("out_packet", aveluafi_repacketizer_out_packet(&rp, store, sizeof store, 2, buffer, sizeof buffer));

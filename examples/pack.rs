@@ -1,5 +1,6 @@
-//! Packs three packets into one, sees three others refused, pads and strips the packet in place, reads its frames back, cuts one out again and restores
-//! one of the packets, through the safe wrapper in aveluafi.rs. examples/run builds and runs it; pack.c does the same in C and prints the same text.
+//! Packs three packets into one, sees three others refused, pads and strips the packet in place, reads its frames back, cuts one out again, then all of them
+//! in one call, and restores one of the packets, through the safe wrapper in aveluafi.rs. examples/run builds and runs it; pack.c does the same in C and prints
+//! the same text.
 
 #[allow(dead_code)]
 mod aveluafi;
@@ -80,6 +81,19 @@ fn main() -> Result<(), Refusal> {
     // Any range of the frames held can be written, again and again; here the second alone.
     let cut = collector.write_range(1..2, &mut buffer)?;
     println!("cut frame 1 out: a packet of {} bytes, {}", cut, same(buffer.get(..cut), &packets[1]));
+
+    // Many ranges in one call, up to 48, their packets one behind another: here each frame by itself. If one is refused, nothing is written, and the refusal
+    // says which, from 1.
+    let ranges = [0..1, 1..2, 2..3];
+    if let Err(refusal) = collector.write_many(&ranges, &mut buffer[..before - 1]) {
+        println!("refused 3 cuts into {} bytes: {}", before - 1, refusal);
+    }
+    let cuts = collector.write_many(&ranges, &mut buffer[..before])?;
+    println!("made 3 cuts into {} bytes", cuts.bytes);
+    for (i, (place, p)) in cuts.packets().zip(&packets).enumerate() {
+        let (at, bytes) = (place.start, place.len());
+        println!("order {}: a packet of {} bytes at {}, {}", i + 1, bytes, at, same(buffer.get(place), p));
+    }
 
     // Or the packets that were added, by their numbers: the refused ones have none, so the third that was accepted is number 2.
     let third = collector.write_packet(2, &mut buffer)?;

@@ -8,9 +8,9 @@
  * different memory may run at the same time.
  *
  * What a caller must see to, since C cannot say it:
- *   - a pointer and a count name that many bytes that can be read, and for a pointer without `const` written; a count of 0 may go with any
- *     pointer, NULL too, as an empty std::vector has it: no byte is touched; a collector pointer is never NULL;
- *   - the memory of two arguments of one call does not overlap (data, store and collector are three different places);
+ *   - a pointer and a count name that many bytes, or cut orders, that can be read, and for a pointer without `const` written; a count of 0 may go with
+ *     any pointer, NULL too, as an empty std::vector has it: no byte is touched; a collector pointer is never NULL;
+ *   - the memory of two arguments of one call does not overlap (data, store, collector and orders are four different places);
  *   - no other thread writes to that memory during the call; so a file that is still being written is read into memory first, and a file that is
  *     mapped must not be changed or cut meanwhile;
  *   - a `bool` is 0 or 1, as C's own is;
@@ -46,7 +46,8 @@ int32_t aveluafi_version(void);
 
 #define AVELUAFI_OK 0                 /* added, padded, nothing to pad */
 #define AVELUAFI_BAD_ARG (-1)         /* an argument outside its bound; an empty packet for samples, frame count, pad or unpad; a range that is not
-                                         0 <= begin < end <= frames held; a packet number not held; a store under 61,200 bytes; a start past a capture's end */
+                                         0 <= begin < end <= frames held; a packet number not held; a store under 61,200 bytes; over 48 cut orders; a start
+                                         past a capture's end */
 #define AVELUAFI_BUFFER_TOO_SMALL (-2) /* the output is longer than the destination */
 #define AVELUAFI_INVALID_PACKET (-4)  /* the packet breaks a rule of RFC 6716; its upper six TOC bits are not those held; over 120 ms held */
 #define AVELUAFI_INVALID_STATE (-6)   /* the collector was not made by these calls, or was written over */
@@ -84,6 +85,7 @@ struct aveluafi_report {
 #define AVELUAFI_MOST_FRAME 1275      /* bytes of a frame */
 #define AVELUAFI_MOST_FRAMES 48       /* frames of a packet or a collector; 120 ms */
 #define AVELUAFI_LEAST_STORE 61200    /* bytes of a collector's store: 48 frames of 1275 */
+#define AVELUAFI_MOST_ORDERS 48       /* cut orders of one call */
 
 /* ---- length fields (RFC 6716, 3.2.1) */
 
@@ -195,6 +197,31 @@ int32_t aveluafi_repacketizer_out_range_impl(const struct aveluafi_repacketizer 
  * answers its bytes: what unpadding that packet would have left. A refused packet has no number. -1 for a number that no frame held has, then -2. */
 int32_t aveluafi_repacketizer_out_packet(const struct aveluafi_repacketizer *rp, const uint8_t *store, size_t store_len, int32_t number, uint8_t *data,
                                          size_t data_len);
+
+/* ---- many cuts in one call */
+
+/* One cut order: the frames begin to end - 1. What length holds before the call is not looked at. */
+struct aveluafi_order {
+    int32_t begin;
+    int32_t end;
+    uint32_t length;                  /* the bytes of its packet, where the call is not refused */
+};
+
+/* What the call answers, returned in a register. */
+struct aveluafi_order_report {
+    int32_t number;                   /* the bytes of all packets, or the refusal */
+    uint32_t position;                /* of the order that is refused, from 1; 0 in every other answer */
+};
+
+/* Writes the packet of each order, which is what aveluafi_repacketizer_out_range writes, into what the orders before it have left of data: one behind another,
+ * the first at the front. Puts the bytes of each into its order's length, and answers the bytes of all. Ranges may overlap and repeat, in any order. No order
+ * answers 0, on an empty collector too. Begin and end of every order stay, and so do the bytes of data past the last packet. orders_len counts orders.
+ *
+ * Order of refusals: -6, then a short store (-1), then a destination over 65,535 bytes (-1), then more than 48 orders (-1), all of these at position 0; then
+ * the orders one by one, the first that is refused with its position: -1 unless 0 <= begin < end <= frames held, then -2 where its packet is longer than what
+ * is left of data. If one order is refused the whole call is: every length and every byte of data is as it was, those of the orders before it too. */
+struct aveluafi_order_report aveluafi_repacketizer_out_many(const struct aveluafi_repacketizer *rp, const uint8_t *store, size_t store_len,
+                                                            struct aveluafi_order *orders, size_t orders_len, uint8_t *data, size_t data_len);
 
 /* ---- pad and unpad, in place
  *
