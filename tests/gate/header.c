@@ -146,6 +146,109 @@ static void collecting(void) {
     is("repacketizer unsound", aveluafi_repacketizer_get_nb_frames(&rp), AVELUAFI_INVALID_STATE);
 }
 
+/* ---- many cuts in one call */
+
+enum { UNSET = 0xEE };
+static struct aveluafi_order orders[AVELUAFI_MOST_ORDERS + 1], given[AVELUAFI_MOST_ORDERS + 1];
+static uint8_t cuts[AVELUAFI_MOST_PACKET + 1];
+
+/* Makes all orders those of begins and ends, the last of them again and again. */
+static void order(int n, const int32_t ranges[][2]) {
+    for (int i = 0; i <= AVELUAFI_MOST_ORDERS; i++) {
+        orders[i].begin = ranges[i < n ? i : n - 1][0];
+        orders[i].end = ranges[i < n ? i : n - 1][1];
+        orders[i].length = UNSET;
+        given[i] = orders[i];
+    }
+}
+
+/* Whether begin and end of every order, the lengths from the n-th order on and the bytes from a place on are as they were. */
+static int stays(size_t n, size_t bytes) {
+    for (size_t i = 0; i <= AVELUAFI_MOST_ORDERS; i++)
+        if (orders[i].begin != given[i].begin || orders[i].end != given[i].end || (i >= n && orders[i].length != given[i].length))
+            return 0;
+    for (size_t i = bytes; i < sizeof cuts; i++)
+        if (cuts[i] != UNSET)
+            return 0;
+    return 1;
+}
+
+/* The first n orders into so much room; a refusal leaves the list and the destination, an answer what stands behind the total. */
+static void cuts_to(const char *what, const struct aveluafi_repacketizer *rp, size_t lent, size_t n, size_t room, long number, long position) {
+    for (size_t i = 0; i < sizeof cuts; i++)
+        cuts[i] = UNSET;
+    struct aveluafi_order_report r = aveluafi_repacketizer_out_many(rp, store, lent, orders, n, cuts, room);
+    field(what, ".number", r.number, number);
+    field(what, ".position", (long)r.position, position);
+    if (number < 0) {
+        field(what, " leaves list and destination", stays(0, 0), 1);
+        return;
+    }
+    long sum = 0;
+    for (size_t i = 0; i < n; i++)
+        sum += (long)orders[i].length;
+    field(what, ".number is the sum of the lengths", sum, number);
+    field(what, " leaves the rest of list and destination", stays(n, (size_t)number), 1);
+}
+
+static void cutting(void) {
+    is("order size", sizeof(struct aveluafi_order), 12);
+    is("order.begin at", offsetof(struct aveluafi_order, begin), 0);
+    is("order.end at", offsetof(struct aveluafi_order, end), 4);
+    is("order.length at", offsetof(struct aveluafi_order, length), 8);
+    is("order_report size", sizeof(struct aveluafi_order_report), 8);
+    is("order_report.number at", offsetof(struct aveluafi_order_report, number), 0);
+    is("order_report.position at", offsetof(struct aveluafi_order_report, position), 4);
+    static const uint8_t first[] = {0, 0xAA}, second[] = {0, 0xBB, 0xCC}, third[] = {1, 0xDD, 0xEE};
+    struct aveluafi_repacketizer rp;
+    aveluafi_repacketizer_init(&rp);
+    order(1, (const int32_t[][2]){{0, 1}});
+    cuts_to("out_many nothing held, no order", &rp, sizeof store, 0, 5, 0, 0);
+    cuts_to("out_many nothing held, one order", &rp, sizeof store, 1, 5, AVELUAFI_BAD_ARG, 1);
+    is("repacketizer_cat first", aveluafi_repacketizer_cat(&rp, first, sizeof first, store, sizeof store).number, AVELUAFI_OK);
+    is("repacketizer_cat second", aveluafi_repacketizer_cat(&rp, second, sizeof second, store, sizeof store).number, AVELUAFI_OK);
+    is("repacketizer_cat third", aveluafi_repacketizer_cat(&rp, third, sizeof third, store, sizeof store).number, AVELUAFI_OK);
+    cuts_to("out_many no order", &rp, sizeof store, 0, 5, 0, 0);
+    cuts_to("out_many no order, no room", &rp, sizeof store, 0, 0, 0, 0);
+
+    order(2, (const int32_t[][2]){{0, 1}, {1, 2}});
+    cuts_to("out_many two frames", &rp, sizeof store, 2, 5, 5, 0);
+    is("order.length first", orders[0].length, 2);
+    is("order.length second", orders[1].length, 3);
+    is("out_many bytes", cuts[0] == 0 && cuts[1] == 0xAA && cuts[2] == 0 && cuts[3] == 0xBB && cuts[4] == 0xCC, 1);
+    order(2, (const int32_t[][2]){{0, 1}, {1, 2}});
+    cuts_to("out_many a room of 4", &rp, sizeof store, 2, 4, AVELUAFI_BUFFER_TOO_SMALL, 2);
+    cuts_to("out_many a room of 1", &rp, sizeof store, 2, 1, AVELUAFI_BUFFER_TOO_SMALL, 1);
+    order(3, (const int32_t[][2]){{0, 4}, {0, 4}, {2, 3}});
+    cuts_to("out_many ranges that repeat and overlap", &rp, sizeof store, 3, 64, 22, 0);
+    is("order.length all", orders[0].length == 10 && orders[1].length == 10 && orders[2].length == 2, 1);
+    order(2, (const int32_t[][2]){{0, 1}, {1, 1}});
+    cuts_to("out_many a range of nothing", &rp, sizeof store, 2, 5, AVELUAFI_BAD_ARG, 2);
+    order(3, (const int32_t[][2]){{0, 1}, {0, 4}, {9, 9}});
+    cuts_to("out_many too long before a wrong range", &rp, sizeof store, 3, 6, AVELUAFI_BUFFER_TOO_SMALL, 2);
+    order(2, (const int32_t[][2]){{0, 1}, {0, 5}});
+    cuts_to("out_many more than is held, without room", &rp, sizeof store, 2, 2, AVELUAFI_BAD_ARG, 2);
+    order(1, (const int32_t[][2]){{-1, 1}});
+    cuts_to("out_many a negative begin", &rp, sizeof store, 1, 5, AVELUAFI_BAD_ARG, 1);
+    order(1, (const int32_t[][2]){{0, 1}});
+    cuts_to("out_many 48 orders", &rp, sizeof store, 48, 96, 96, 0);
+    order(1, (const int32_t[][2]){{0, 1}});
+    cuts_to("out_many 48 orders, a byte too few", &rp, sizeof store, 48, 95, AVELUAFI_BUFFER_TOO_SMALL, 48);
+    order(1, (const int32_t[][2]){{0, 1}});
+    cuts_to("out_many 49 orders", &rp, sizeof store, 49, 98, AVELUAFI_BAD_ARG, 0);
+    order(1, (const int32_t[][2]){{0, 1}});
+    cuts_to("out_many a destination of 65,535", &rp, sizeof store, 1, AVELUAFI_MOST_PACKET, 2, 0);
+    /* one thing wrong after another, each before those that follow */
+    order(1, (const int32_t[][2]){{9, 9}});
+    cuts_to("out_many a wrong range before 49 orders", &rp, sizeof store, 49, 5, AVELUAFI_BAD_ARG, 0);
+    cuts_to("out_many a destination of 65,536", &rp, sizeof store, 1, AVELUAFI_MOST_PACKET + 1, AVELUAFI_BAD_ARG, 0);
+    cuts_to("out_many a short store", &rp, sizeof store - 1, 1, 5, AVELUAFI_BAD_ARG, 0);
+    cuts_to("out_many a short store, no order", &rp, sizeof store - 1, 0, 5, AVELUAFI_BAD_ARG, 0);
+    rp.nb_frames = 49;
+    cuts_to("out_many unsound", &rp, sizeof store, 1, 5, AVELUAFI_INVALID_STATE, 0);
+    cuts_to("out_many unsound, all wrong", &rp, 0, 49, AVELUAFI_MOST_PACKET + 1, AVELUAFI_INVALID_STATE, 0);
+}
+
 static void in_place(void) {
     for (size_t i = 0; i < sizeof packet; i++)
         out[i] = packet[i];
@@ -215,6 +318,15 @@ static void nothing(void) {
     is("NULL repacketizer_out_packet store", aveluafi_repacketizer_out_packet(&rp, NULL, 0, 0, out, sizeof out), AVELUAFI_BAD_ARG);
     is("NULL repacketizer_out_range_impl", aveluafi_repacketizer_out_range_impl(&rp, store, sizeof store, 0, 1, NULL, 0, true, true),
        AVELUAFI_BUFFER_TOO_SMALL);
+    struct aveluafi_order one = {0, 1, UNSET};
+    struct aveluafi_order_report cut = aveluafi_repacketizer_out_many(&rp, store, sizeof store, &one, 1, NULL, 0);
+    is("NULL repacketizer_out_many", cut.number == AVELUAFI_BUFFER_TOO_SMALL && cut.position == 1 && one.length == UNSET, 1);
+    cut = aveluafi_repacketizer_out_many(&rp, NULL, 0, &one, 1, out, sizeof out);
+    is("NULL repacketizer_out_many store", cut.number == AVELUAFI_BAD_ARG && cut.position == 0 && one.length == UNSET, 1);
+    cut = aveluafi_repacketizer_out_many(&rp, store, sizeof store, NULL, 0, out, sizeof out);
+    is("NULL repacketizer_out_many orders", cut.number == 0 && cut.position == 0, 1);
+    cut = aveluafi_repacketizer_out_many(&rp, store, sizeof store, NULL, 0, NULL, 0);
+    is("NULL repacketizer_out_many both", cut.number == 0 && cut.position == 0, 1);
     is("NULL packet_pad", aveluafi_packet_pad(NULL, 0, 1, 2).number, AVELUAFI_BAD_ARG);
     is("NULL packet_unpad", aveluafi_packet_unpad(NULL, 0, 1).number, AVELUAFI_BAD_ARG);
     is("NULL multistream_packet_pad", aveluafi_multistream_packet_pad(NULL, 0, 1, 2, 1).number, AVELUAFI_BAD_ARG);
@@ -229,6 +341,7 @@ int main(void) {
     is("version", aveluafi_version(), AVELUAFI_VERSION);
     reading();
     collecting();
+    cutting();
     in_place();
     judging();
     captures();

@@ -1,2 +1,3 @@
 typedef __SIZE_TYPE__ size_t;
 #define NULL ((void *)0)
+#define offsetof(type, field) __builtin_offsetof(type, field)
