@@ -202,6 +202,67 @@ static int samples(Bytes p, int32_t rate) {
     return aveluafi_packet_get_samples_per_frame(p.at, p.len, rate);
 }
 
+// The orders one by one: single outputs, each into what is left, must be accepted with the lengths and the bytes of the many, or up to the order that is
+// refused, and that one by the same number.
+static void agree_singly(const struct aveluafi_repacketizer *rp, const Cuts *c) {
+    Bytes out = block(c->out.len, 0xee);
+    int32_t at = 0, last = c->number < 0 ? (int32_t)c->position : c->orders;
+    for (int32_t i = 0; i < last; i++) {
+        int32_t n = aveluafi_repacketizer_out_range(rp, c->store.at, c->store.len, c->order[i].begin, c->order[i].end, out.at + at, out.len - at);
+        if (c->number < 0 && i + 1 == last) {
+            require(n == c->number, "aveluafi_repacketizer_out_many: the single output of the refused order answers another number");
+            break;
+        }
+        require(n > 0, "aveluafi_repacketizer_out_many: the single output of an order before the refused one is refused");
+        require(c->number < 0 || n == (int32_t)c->order[i].length, "aveluafi_repacketizer_out_many: another length than that of the single output");
+        at += n;
+    }
+    require(c->number < 0 || (at == c->number && memcmp(out.at, c->out.at, out.len) == 0),
+            "aveluafi_repacketizer_out_many: other bytes than those of the single outputs");
+    free(out.at);
+}
+
+// The call is lent a list and a destination that go on behind what it is told of, and must leave that, and the collector and its store as well.
+static int cut(Cuts *c) {
+    enum { BEHIND = 9, MARK = 0x5a5a5a5a };
+    struct aveluafi_repacketizer rp, before;
+    memset(&rp, 0, sizeof rp);
+    rp.toc = c->toc;
+    rp.nb_frames = c->count;
+    rp.framesize = c->framesize;
+    memcpy(rp.len, c->lengths, sizeof rp.len);
+    before = rp;
+    Bytes store = block(c->store.len, 0), out = block(c->out.len + BEHIND, 0xdd);
+    memcpy(store.at, c->store.at, store.len);
+    memcpy(out.at, c->out.at, c->out.len);
+    struct aveluafi_order orders[256];
+    for (int i = 0; i < c->orders; i++) {
+        orders[i] = (struct aveluafi_order){c->order[i].begin, c->order[i].end, c->order[i].length};
+    }
+    orders[c->orders] = (struct aveluafi_order){MARK, MARK, MARK};
+    struct aveluafi_order_report r = aveluafi_repacketizer_out_many(&rp, store.at, store.len, orders, c->orders, out.at, c->out.len);
+    require(same_collector(&rp, &before) && memcmp(store.at, c->store.at, store.len) == 0, "aveluafi_repacketizer_out_many: collector or store has changed");
+    struct aveluafi_order behind = orders[c->orders];
+    require(behind.begin == MARK && behind.end == MARK && behind.length == MARK, "aveluafi_repacketizer_out_many has written behind the list");
+    for (int i = 0; i < BEHIND; i++) {
+        require(out.at[c->out.len + i] == 0xdd, "aveluafi_repacketizer_out_many has written behind the destination");
+    }
+    for (int i = 0; i < c->orders; i++) {
+        c->order[i].begin = orders[i].begin;
+        c->order[i].end = orders[i].end;
+        c->order[i].length = orders[i].length;
+    }
+    memcpy(c->out.at, out.at, c->out.len);
+    c->number = r.number;
+    c->position = r.position;
+    if (r.number >= 0 || r.position > 0) {
+        agree_singly(&rp, c);
+    }
+    free(store.at);
+    free(out.at);
+    return 1;
+}
+
 static void start(int argc, char **argv) {
     (void)argc;
     (void)argv;

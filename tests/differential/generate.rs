@@ -2,6 +2,7 @@
 // 2 bytes through every call. `generate places ..`: the same for the kinds that tell rule and place, with packets that break a rule more often than not.
 // `generate strict SEED COUNT`: adds of kind 18, strict and ordinary, of packets with clean padding and with dirty.
 // `generate numbers SEED COUNT`: kinds 19 and 20, on collectors with packet numbers.
+// `generate orders SEED COUNT`: kind 21, lists of cut orders.
 // `generate stages SEED COUNT` writes so many packets to be padded in two steps (tests/stages). The same seed and count give the same bytes.
 use std::io::Write;
 
@@ -819,6 +820,141 @@ fn number_case(r: &mut Random, out: &mut Vec<u8>) {
     }
 }
 
+// ---- many cuts in one call
+
+// A collector to be cut: one that holds frames, of other lengths now and then; or any numbers at all.
+fn cut_state(r: &mut Random) -> State {
+    // 2.5 ms more often than the others, since only there 48 frames fit
+    let six = if r.chance(45) { 0x80 | (r.byte() & 0x64) } else { r.byte() & 0xfc };
+    let mut s = held_state(r, six);
+    while s.count == 0 && r.chance(85) {
+        s = held_state(r, six);
+    }
+    if r.chance(2) {
+        s.toc = r.byte();
+        s.said = if r.chance(50) { r.between(0, 50) as u16 } else { r.next() as u16 };
+        s.each = r.pick(&[0, 20, 40, 80, 160, 320, 480, 961, 65535]);
+        let n = r.between(0, 48);
+        s.lens = (0..n).map(|_| if r.chance(90) { r.between(0, 1277) } else { r.below(65536) } as u16).collect();
+        s.front.clear();
+    } else if s.count > 0 && r.chance(40) {
+        let same = r.chance(30).then(|| frame_length(r) as u16);
+        s.lens[..s.count].iter_mut().for_each(|n| *n = same.unwrap_or_else(|| frame_length(r) as u16));
+        let held: usize = s.lens[..s.count].iter().map(|n| *n as usize).sum();
+        s.front = r.bytes(held.min(s.store as usize));
+    }
+    s
+}
+
+fn right_range(r: &mut Random, held: usize) -> (i32, i32) {
+    let begin = r.below(held);
+    // a frame or a few, more often than not
+    let most = if r.chance(70) { (held - begin).min(3) } else { held - begin };
+    (begin as i32, (begin + r.between(1, most)) as i32)
+}
+
+// A range that is refused: empty, reversed, negative, past the frames held, or far out.
+fn wrong_range(r: &mut Random, held: usize) -> (i32, i32) {
+    let all = held as i32;
+    let at = r.below(held + 1) as i32;
+    let far = r.pick(&EXTREMES);
+    match r.below(8) {
+        0 => (at, at),
+        1 => (at, at - 1 - r.below(3) as i32),
+        2 => (-1, at),
+        3 => (at, all + 1),
+        4 => (all, all + 1),
+        5 => (far, if far > 0 { at } else { all }),
+        6 => (at, if far > 0 { far } else { -1 }),
+        _ => (r.pick(&[i32::MIN, -1]), i32::MAX),
+    }
+}
+
+fn cut_orders(r: &mut Random, held: usize) -> Vec<(i32, i32)> {
+    let n = match r.below(24) {
+        0 => 0,
+        1 | 2 => 1,
+        3 => 47,
+        4 | 5 => 48,
+        6 => 49,
+        7 if r.chance(50) => r.pick(&[50, 64, 128, 254, 255]),
+        8..=10 => r.between(7, 46),
+        _ => r.between(2, 6),
+    };
+    if held == 0 {
+        return (0..n).map(|_| range(r, held)).collect();
+    }
+    let mut orders: Vec<(i32, i32)> = match r.below(10) {
+        // the frames held in order, each once: cut points 0 < c1 < .. < held
+        0 | 1 => {
+            let mut points: Vec<usize> = (1..held).filter(|_| r.chance(100 * n.min(held) / held)).collect();
+            points.truncate(n.saturating_sub(1));
+            points.push(held);
+            let mut begin = 0;
+            let cuts = points.iter().map(|end| (std::mem::replace(&mut begin, *end) as i32, *end as i32));
+            cuts.take(n).collect()
+        }
+        // one range again and again
+        2 => vec![right_range(r, held); n],
+        // the shortest ranges there are
+        3 => (0..n).map(|_| r.below(held) as i32).map(|begin| (begin, begin + 1)).collect(),
+        4 => (0..n).map(|_| range(r, held)).collect(),
+        _ => (0..n).map(|_| right_range(r, held)).collect(),
+    };
+    // one that is refused: the last, or any
+    if !orders.is_empty() && r.chance(20) {
+        let at = if r.chance(50) { orders.len() - 1 } else { r.below(orders.len()) };
+        orders[at] = wrong_range(r, held);
+    }
+    orders
+}
+
+// A room by the totals of the orders' packets, one after another: at the last of them, at any, and beside.
+fn cut_room(r: &mut Random, totals: &[usize]) -> usize {
+    // long ones seldom, since every byte of the destination stands in the line
+    let most = if r.chance(4) { 65535 } else { 2500 };
+    let near: Vec<usize> = totals.iter().copied().filter(|t| *t <= most).collect();
+    let last = near.last().copied().unwrap_or(0);
+    let any = if near.is_empty() { 0 } else { r.pick(&near) };
+    match r.below(40) {
+        0..=11 => last,
+        12..=16 => last.saturating_sub(1),
+        17..=22 => last + r.between(1, 9),
+        23..=25 => any,
+        26..=28 => any.saturating_sub(1),
+        29 | 30 => any + 1,
+        31 => r.below(last + 1),
+        32 => 0,
+        33 if r.chance(15) => 65535,
+        34 if r.chance(25) => 65536,
+        _ => last + r.between(0, 300),
+    }
+}
+
+fn orders_case(r: &mut Random, out: &mut Vec<u8>) {
+    let s = cut_state(r);
+    let held: Vec<usize> = s.lens[..s.count.min(s.lens.len())].iter().map(|n| *n as usize).collect();
+    let orders = cut_orders(r, held.len());
+    let mut total = 0;
+    let right = |(begin, end): &(i32, i32)| 0 <= *begin && begin < end && *end as usize <= held.len();
+    let totals: Vec<usize> = orders
+        .iter()
+        .take_while(|o| right(o))
+        .map(|(begin, end)| {
+            total += compact(&held[*begin as usize..*end as usize], false);
+            total
+        })
+        .collect();
+    out.push(21);
+    put_state(out, &s, None);
+    put(out, cut_room(r, &totals).min(65536) as i32);
+    out.push(orders.len() as u8);
+    for (begin, end) in &orders {
+        put(out, *begin);
+        put(out, *end);
+    }
+}
+
 fn place_case(r: &mut Random, out: &mut Vec<u8>) {
     match r.below(20) {
         0..=7 => {
@@ -983,9 +1119,10 @@ fn main() {
     let staged = words.len() == 3 && words[0] == "stages";
     let strict = words.len() == 3 && words[0] == "strict";
     let numbered = words.len() == 3 && words[0] == "numbers";
-    let numbers: Option<Vec<u64>> = words[(staged || strict || numbered || places) as usize..].iter().map(|w| w.parse().ok()).collect();
+    let ordered = words.len() == 3 && words[0] == "orders";
+    let numbers: Option<Vec<u64>> = words[(staged || strict || numbered || ordered || places) as usize..].iter().map(|w| w.parse().ok()).collect();
     let Some([seed, count]) = numbers.as_deref() else {
-        eprintln!("usage: generate [places | stages | strict | numbers] SEED COUNT | generate [places] short");
+        eprintln!("usage: generate [places | stages | strict | numbers | orders] SEED COUNT | generate [places] short");
         std::process::exit(2);
     };
     // a seed of 0 would stay 0
@@ -997,6 +1134,8 @@ fn main() {
             adds_of_kinds(&mut r, &mut out);
         } else if numbered {
             number_case(&mut r, &mut out);
+        } else if ordered {
+            orders_case(&mut r, &mut out);
         } else if places {
             place_case(&mut r, &mut out);
         } else {

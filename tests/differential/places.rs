@@ -1,10 +1,11 @@
-// Answers kinds 11 to 20 of the replay protocol, with rule and place, by the crate unopus 0.0.1 whose refusing returns are marked (places.patch). The
+// Answers kinds 11 to 21 of the replay protocol, with rule and place, by the crate unopus 0.0.1 whose refusing returns are marked (places.patch). The
 // build puts the folder of the marked copy for CRATE_FOLDER.
 //
 // Written here, from documents 01 and 02: the rules that the length reader can be told; the bounds outside which the crate would touch memory that is not
 // its own, or which the port adds (65,535 bytes, the lent buffer, 1 to 255 streams); soundness of a collector and the least store; the store, into which
 // the port copies the frames that the crate points at; dirty padding (kinds 18 and 19), looked for behind the frames that the crate has found; packet
-// numbers (kinds 19 and 20). The output of a packet by its number is what the crate's unpad makes of the packet itself, which is kept for that.
+// numbers (kinds 19 and 20). The output of a packet by its number is what the crate's unpad makes of the packet itself, which is kept for that. Many cuts in
+// one call (kind 21) are the crate's single outputs, each into what is left; what is refused before them is written here.
 // Beside a refusal every other field is 0, and the collector, the store and the buffer are as they were.
 #![allow(unused, non_snake_case, non_camel_case_types, static_mut_refs, dead_code)]
 
@@ -194,6 +195,7 @@ unsafe fn dirty(p: &[u8]) -> bool {
 // ---- the collector
 
 const LEAST_STORE: usize = 61200;
+const MOST_ORDERS: usize = 48;
 
 struct Held {
     toc: u8,
@@ -341,6 +343,42 @@ impl Held {
         hex(line, &out);
     }
 
+    // A list of cut orders (document 02, M-106): single outputs into a destination of their own, each behind the one before. Only if none is refused do the
+    // lengths and that destination count.
+    unsafe fn out_many(&self, line: &mut String, orders: &[(i32, i32)], room: usize) {
+        let mut lengths = vec![UNSET as i32; orders.len()];
+        let mut out = vec![UNSET; room];
+        let refused = self.refused().or((room > MOST).then_some(-1)).or((orders.len() > MOST_ORDERS).then_some(-1));
+        let (number, position) = match refused {
+            Some(n) => (n, 0),
+            None => {
+                let mut rp = self.collector();
+                let mut written = vec![UNSET; room + BEHIND];
+                let (mut at, mut packets) = (0, Vec::new());
+                let bad = orders.iter().position(|(begin, end)| {
+                    let n = opus_repacketizer_out_range_impl(&mut rp, *begin, *end, written.as_mut_ptr().add(at), (room - at) as i32, 0, 0);
+                    packets.push(n);
+                    at += n.max(0) as usize;
+                    n < 0
+                });
+                assert!(written[room..].iter().all(|b| *b == UNSET), "the crate has written behind the room it was given");
+                if let Some(k) = bad {
+                    (packets[k], k + 1)
+                } else {
+                    out.copy_from_slice(&written[..room]);
+                    lengths = packets;
+                    (at as i32, 0)
+                }
+            }
+        };
+        write!(line, "{number} {position} ;").unwrap();
+        for ((begin, end), length) in orders.iter().zip(lengths) {
+            write!(line, " {begin} {end} {length}").unwrap();
+        }
+        line.push_str(" ; ");
+        hex(line, &out);
+    }
+
     // The collector with its lengths, and its packet numbers where they are asked for, and the store.
     fn put(&self, line: &mut String, numbers: bool) {
         write!(line, "; {} {} {}", self.toc, self.count, self.framesize).unwrap();
@@ -393,6 +431,14 @@ unsafe fn range_out(i: &mut Input, line: &mut String) -> Option<()> {
     Some(())
 }
 
+unsafe fn many_out(i: &mut Input, line: &mut String) -> Option<()> {
+    let held = Held::read(i, false)?;
+    let room = i.room()?;
+    let orders: Option<Vec<(i32, i32)>> = (0..i.u8()?).map(|_| Some((i.i32()?, i.i32()?))).collect();
+    held.out_many(line, &orders?, room);
+    Some(())
+}
+
 unsafe fn answer(i: &mut Input, kind: u8, line: &mut String) -> Option<()> {
     match kind {
         11 => {
@@ -438,6 +484,7 @@ unsafe fn answer(i: &mut Input, kind: u8, line: &mut String) -> Option<()> {
         18 => adds(i, line, true)?,
         19 => packet_out(i, line)?,
         20 => range_out(i, line)?,
+        21 => many_out(i, line)?,
         _ => return None,
     }
     Some(())

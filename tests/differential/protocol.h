@@ -5,7 +5,7 @@
 #include <stdlib.h>
 #include <string.h>
 
-enum { READ_PACKET = 1, COLLECT, PAD, UNPAD, MULTISTREAM_PAD, MULTISTREAM_UNPAD, WRITE_LENGTH, READ_LENGTH, FRAME_COUNT, SAMPLES };
+enum { READ_PACKET = 1, COLLECT, PAD, UNPAD, MULTISTREAM_PAD, MULTISTREAM_UNPAD, WRITE_LENGTH, READ_LENGTH, FRAME_COUNT, SAMPLES, MANY_CUTS = 21 };
 
 typedef struct {
     unsigned char *at;
@@ -26,6 +26,20 @@ typedef struct {
     int added[255], held, number;
 } Collection;
 
+// The case of many cuts in one call, on a collector that need not be sound, and what the adapter fills in: of the orders their lengths.
+typedef struct {
+    unsigned char toc;
+    uint16_t count, framesize, lengths[48];
+    Bytes store, out;
+    int orders;
+    struct {
+        int32_t begin, end;
+        uint32_t length;
+    } order[255];
+    int number;
+    uint32_t position;
+} Cuts;
+
 // Called once, before the first case.
 static void start(int argc, char **argv);
 // Fills in the packet unless it is refused; the number is how many lengths.
@@ -38,6 +52,8 @@ static int write_length(int32_t size, Bytes out);
 static int read_length(Bytes b, int *size);
 static int frame_count(Bytes p);
 static int samples(Bytes p, int32_t rate);
+// 0 where there is no such call.
+static int cut(Cuts *c);
 
 // The number of the case being answered, from 1.
 static long case_number;
@@ -56,6 +72,15 @@ static Bytes block(int32_t len, int fill) {
 
 static int get(void *to, size_t n) {
     return fread(to, 1, n, stdin) == n;
+}
+
+static int get_u16(uint16_t *n) {
+    unsigned char b[2];
+    if (!get(b, 2)) {
+        return 0;
+    }
+    *n = (uint16_t)(b[0] | b[1] << 8);
+    return 1;
 }
 
 static int get_i32(int32_t *n) {
@@ -78,6 +103,46 @@ static int get_bytes(Bytes *b) {
     }
     *b = block(n, 0);
     return get(b->at, n);
+}
+
+// A collector without packet numbers, and its store, whose front is given.
+static int get_collector(Cuts *c) {
+    unsigned char n;
+    int32_t store;
+    Bytes front;
+    if (!get(&c->toc, 1) || !get_u16(&c->count) || !get_u16(&c->framesize) || !get(&n, 1) || n > 48) {
+        return 0;
+    }
+    memset(c->lengths, 0, sizeof c->lengths);
+    for (int i = 0; i < n; i++) {
+        if (!get_u16(&c->lengths[i])) {
+            return 0;
+        }
+    }
+    if (!get_room(&store) || !get_bytes(&front) || front.len > store) {
+        return 0;
+    }
+    c->store = block(store, 0xee);
+    memcpy(c->store.at, front.at, front.len);
+    free(front.at);
+    return 1;
+}
+
+static int get_cuts(Cuts *c) {
+    unsigned char n;
+    int32_t room;
+    if (!get_collector(c) || !get_room(&room) || !get(&n, 1)) {
+        return 0;
+    }
+    c->orders = n;
+    for (int i = 0; i < n; i++) {
+        if (!get_i32(&c->order[i].begin) || !get_i32(&c->order[i].end)) {
+            return 0;
+        }
+        c->order[i].length = 238;
+    }
+    c->out = block(room, 0xee);
+    return 1;
 }
 
 // ---- output
@@ -139,6 +204,19 @@ static void line_read_length(Bytes b) {
     if (n >= 0) {
         printf(" %d", size);
     }
+}
+
+static int line_cuts(Cuts *c) {
+    if (!cut(c)) {
+        return 0;
+    }
+    printf("%d %u ;", c->number, (unsigned)c->position);
+    for (int i = 0; i < c->orders; i++) {
+        printf(" %d %d %u", (int)c->order[i].begin, (int)c->order[i].end, (unsigned)c->order[i].length);
+    }
+    printf(" ; ");
+    put_hex(c->out);
+    return 1;
 }
 
 static int answer(int kind) {
@@ -221,6 +299,15 @@ static int answer(int kind) {
         }
         printf("%d", samples(p, rate));
         break;
+    case MANY_CUTS: {
+        static Cuts c;
+        if (!get_cuts(&c) || !line_cuts(&c)) {
+            return 0;
+        }
+        free(c.store.at);
+        free(c.out.at);
+        return 1;
+    }
     default:
         return 0;
     }
