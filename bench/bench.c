@@ -29,6 +29,7 @@ int32_t crate_repacketizer_get_size(void);
 void crate_repacketizer_init(void *);
 int32_t crate_repacketizer_cat(void *, const uint8_t *, int32_t);
 int32_t crate_repacketizer_out(void *, uint8_t *, int32_t);
+int32_t crate_repacketizer_out_range(void *, int32_t, int32_t, uint8_t *, int32_t);
 int32_t crate_packet_pad(uint8_t *, int32_t, int32_t);
 int32_t crate_packet_unpad(uint8_t *, int32_t);
 int32_t crate_multistream_packet_pad(uint8_t *, int32_t, int32_t, int32_t);
@@ -41,6 +42,7 @@ int opus_repacketizer_get_size(void);
 void *opus_repacketizer_init(void *);
 int opus_repacketizer_cat(void *, const uint8_t *, int32_t);
 int32_t opus_repacketizer_out(void *, uint8_t *, int32_t);
+int32_t opus_repacketizer_out_range(void *, int, int, uint8_t *, int32_t);
 int opus_packet_pad(uint8_t *, int32_t, int32_t);
 int32_t opus_packet_unpad(uint8_t *, int32_t);
 int opus_multistream_packet_pad(uint8_t *, int32_t, int32_t, int);
@@ -48,7 +50,7 @@ int32_t opus_multistream_packet_unpad(uint8_t *, int32_t, int);
 
 /* ---- a set */
 
-enum kind { COUNT, READ, READ_SELF, PACK, PACK_STRICT, UNPAD, PAD, STREAMS_UNPAD, STREAMS_PAD };
+enum kind { COUNT, READ, READ_SELF, PACK, PACK_STRICT, CUT, CUT_SINGLY, UNPAD, PAD, STREAMS_UNPAD, STREAMS_PAD };
 enum side { NONE, OURS, CRATE, LIBOPUS, SIDES };
 static const char *side_names[] = {"none", "ours", "crate", "libopus"};
 
@@ -57,10 +59,11 @@ static const char *side_names[] = {"none", "ours", "crate", "libopus"};
 struct set {
     enum kind kind;
     const char *what;                 /* the packets, in words */
-    int packets;                      /* for PACK; each call else has one */
+    int packets;                      /* for PACK and CUT; each call else has one */
     const uint8_t *packet[48];
     int len[48];
     int new_len, streams;             /* for PAD and the multistream calls */
+    int cuts;                         /* for CUT: the frames held are cut in so many parts of the same number of frames */
     long moved;
     int frames, chain;                /* frames in all, and padding length bytes that are read */
 };
@@ -151,6 +154,59 @@ static int libopus_pack(const struct set *s) {
     return opus_repacketizer_out(libopus_rp, buffer, ROOM);
 }
 
+/* Cuts of a collector that holds the set's packets already: all sides hold them before the first call. The orders are those of `orders`; the other sides
+   have single outputs alone, and ours has both. */
+static struct aveluafi_order orders[AVELUAFI_MOST_ORDERS];
+
+static void hold(const struct set *s) {
+    aveluafi_repacketizer_init(&our_rp);
+    crate_repacketizer_init(crate_rp);
+    opus_repacketizer_init(libopus_rp);
+    for (int i = 0; i < s->packets; i++) {
+        aveluafi_repacketizer_cat(&our_rp, s->packet[i], s->len[i], store, sizeof store);
+        crate_repacketizer_cat(crate_rp, s->packet[i], s->len[i]);
+        opus_repacketizer_cat(libopus_rp, s->packet[i], s->len[i]);
+    }
+    for (int i = 0; i < s->cuts; i++) {
+        orders[i].begin = i * (s->frames / s->cuts);
+        orders[i].end = (i + 1) * (s->frames / s->cuts);
+    }
+}
+
+static int ours_cut(const struct set *s) {
+    return aveluafi_repacketizer_out_many(&our_rp, store, sizeof store, orders, s->cuts, buffer, ROOM).number;
+}
+static int ours_cut_singly(const struct set *s) {
+    int at = 0;
+    for (int i = 0; i < s->cuts; i++) {
+        int n = aveluafi_repacketizer_out_range(&our_rp, store, sizeof store, orders[i].begin, orders[i].end, buffer + at, ROOM - at);
+        if (n < 0) return n;
+        orders[i].length = n;
+        at += n;
+    }
+    return at;
+}
+static int crate_cut(const struct set *s) {
+    int at = 0;
+    for (int i = 0; i < s->cuts; i++) {
+        int n = crate_repacketizer_out_range(crate_rp, orders[i].begin, orders[i].end, buffer + at, ROOM - at);
+        if (n < 0) return n;
+        orders[i].length = n;
+        at += n;
+    }
+    return at;
+}
+static int libopus_cut(const struct set *s) {
+    int at = 0;
+    for (int i = 0; i < s->cuts; i++) {
+        int n = opus_repacketizer_out_range(libopus_rp, orders[i].begin, orders[i].end, buffer + at, ROOM - at);
+        if (n < 0) return n;
+        orders[i].length = n;
+        at += n;
+    }
+    return at;
+}
+
 static int ours_unpad(const struct set *s) { return aveluafi_packet_unpad(buffer, ROOM, s->len[0]).number; }
 static int crate_unpad(const struct set *s) { return crate_packet_unpad(buffer, s->len[0]); }
 static int libopus_unpad(const struct set *s) { return opus_packet_unpad(buffer, s->len[0]); }
@@ -179,6 +235,8 @@ static const struct {
     [READ_SELF] = {"reader, self-delimited", false, {none, ours_read_self, crate_read_self, libopus_read_self}},
     [PACK] = {"init, add, output", false, {none, ours_pack, crate_pack, libopus_pack}},
     [PACK_STRICT] = {"init, strict add, output", false, {none, ours_pack_strict, crate_pack, libopus_pack}},
+    [CUT] = {"many cuts in one call", false, {none, ours_cut, crate_cut, libopus_cut}},
+    [CUT_SINGLY] = {"the same by single outputs", false, {none, ours_cut_singly, crate_cut, libopus_cut}},
     [UNPAD] = {"unpad", true, {none, ours_unpad, crate_unpad, libopus_unpad}},
     [PAD] = {"pad", true, {none, ours_pad, crate_pad, libopus_pad}},
     [STREAMS_UNPAD] = {"multistream unpad", true, {none, ours_streams_unpad, crate_streams_unpad, libopus_streams_unpad}},
@@ -321,6 +379,20 @@ static void make(struct set *s, const char *key) {
             add_packet(s, CELT_2_5, 0, sizes + i, 1, false, 0, false);
         }
         s->moved = total(sizes, 48);
+    } else if (!strncmp(key, "cut-", 4) || !strncmp(key, "singly-", 7)) {
+        s->kind = key[0] == 's' ? CUT_SINGLY : CUT;
+        const char *which = strchr(key, '-') + 1;
+        int frames = 48;
+        if (!strcmp(which, "3-3")) s->what = "3 frames in 3", frames = s->cuts = 3;
+        else if (!strcmp(which, "48-48")) s->what = "48 frames of 2.5 ms in 48", s->cuts = 48;
+        else if (!strcmp(which, "48-8")) s->what = "48 frames of 2.5 ms in 8", s->cuts = 8;
+        else if (!strcmp(which, "48-1")) s->what = "48 frames of 2.5 ms in 1", s->cuts = 1;
+        else goto unknown;
+        for (int i = 0; i < frames; i++) {
+            sizes[i] = frames == 3 ? (const int[]){39, 44, 37}[i] : 15 + i % 11;
+            add_packet(s, frames == 3 ? SILK_20 : CELT_2_5, 0, sizes + i, 1, false, 0, false);
+        }
+        s->moved = total(sizes, frames);
     } else if (!strcmp(key, "read-6")) {
         s->kind = READ, s->what = "6 unequal frames, 200 bytes of padding";
         six_frames(s);
@@ -419,7 +491,8 @@ static void make(struct set *s, const char *key) {
 
 static const char *keys[] = {
     "voice", "voice-count", "read-6", "read-1275", "read-48-equal", "read-48-unequal", "pack-3", "pack-48", "pack-6",
-    "strict-3", "strict-48", "strict-6", "unpad-6", "unpad-1275",
+    "strict-3", "strict-48", "strict-6", "cut-3-3", "singly-3-3", "cut-48-48", "singly-48-48", "cut-48-8", "singly-48-8", "cut-48-1", "singly-48-1",
+    "unpad-6", "unpad-1275",
     "streams-unpad", "pad-6-1275", "pad-6-65535", "streams-pad", "refused-R1", "refused-R2", "refused-R3", "refused-R4", "refused-R5-none",
     "refused-R5-long", "refused-R6", "refused-R6-padding", "refused-R7", "refused-self", NULL};
 static const char *growing[] = {"reader", "pack", "unpad", "pad", NULL};
@@ -430,6 +503,7 @@ static void of(const char *key, struct set *s) {
     used = 0, seed = 1;
     memset(s, 0, sizeof *s);
     make(s, key);
+    if (s->cuts) hold(s);
 }
 
 static void each_key(void (*f)(const char *), bool growth) {

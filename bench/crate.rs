@@ -32,6 +32,8 @@ pub unsafe fn opus_packet_get_nb_frames(packet: *const u8, len: i32) -> i32 {
     }
 }
 
+// ---- exported
+
 #[no_mangle]
 pub unsafe extern "C" fn crate_packet_get_nb_frames(packet: *const u8, len: i32) -> i32 {
     opus_packet_get_nb_frames(packet, len)
@@ -101,4 +103,11 @@ pub unsafe extern "C" fn crate_multistream_packet_pad(data: *mut u8, len: i32, n
 #[no_mangle]
 pub unsafe extern "C" fn crate_multistream_packet_unpad(data: *mut u8, len: i32, nb_streams: i32) -> i32 {
     opus_multistream_packet_unpad(data, len, nb_streams)
+}
+
+// ---- exported from an object of its own, since one more caller of what these share changes how the others are compiled
+
+#[no_mangle]
+pub unsafe extern "C" fn crate_repacketizer_out_range(rp: *mut OpusRepacketizer, begin: i32, end: i32, data: *mut u8, maxlen: i32) -> i32 {
+    opus_repacketizer_out_range(rp, begin, end, data, maxlen)
 }
