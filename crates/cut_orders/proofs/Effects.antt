@@ -1,5 +1,6 @@
 -- The single output of an order, unpadded and ordinary, as an effect.
 --     refused-negative                                 a refusal is no number of bytes
+--     output-short, output-fits                        a range, by its room
 --     effect-whole                                     what is written has the bytes that are answered, and they are within the room
 --     effect-passed                                    a call is passed bits
 --     effect-before, .., effect-past                   a range that is none of the frames held
@@ -51,13 +52,22 @@ pub data Whole (room : ℕ) : Effect → Type 0 where
   stopped : (e : Refusal) → Whole room (refusal e)
   put : (vs : List ℕ) → length vs ≤ room → Whole room (written vs)
 
+-- by the room
 module _ (six : ℕ) (frames : List (List ℕ)) (room : ℕ) where
-  output-whole : Whole room (output false false six frames room)
+  pub output-short : room < length (compact false six frames) → output false false six frames room ≡ refusal BufferTooSmall
   unfolding output
+  output-short h = rw (lt-ltb room (length (compact false six frames)) h)
+
+  pub output-fits : length (compact false six frames) ≤ room → output false false six frames room ≡ written (compact false six frames)
+  unfolding output
+  output-fits h = rw (le-ltb room (length (compact false six frames)) h)
+
+  output-whole : Whole room (output false false six frames room)
   output-whole =
-      by-test (ltb room (length (compact false six frames)))
-      (λ t. rw t (stopped BufferTooSmall))
-      (λ t. rw t (put (compact false six frames) (ltb-false room (length (compact false six frames)) t)))
+      let packet = compact false six frames in
+      by-test (ltb room (length packet))
+      (λ t. rw (output-short (ltb-true room (length packet) t)) (stopped BufferTooSmall))
+      (λ t. let h = ltb-false room (length packet) t in rw (output-fits h) (put packet h))
 
 module _ (six : ℕ) (frames : List (List ℕ)) (room : ℕ) where
   pub effect-whole : (begin end : ℤ) → Whole room (outFrames false false six frames begin end room)
@@ -86,6 +96,10 @@ module _ (six : ℕ) (frames : List (List ℕ)) (room : ℕ) where
 
   pub effect-none : {begin end : ℤ} {b e : ℕ} → begin ≡ pos b → end ≡ pos e → e ≤ b → outFrames false false six frames begin end room ≡ refusal BadArg
   effect-none {b = b} {e = e} p q h = rw (p, q, le-ltb b e h)
+
+  pub effect-within : {begin end : ℤ} {b e : ℕ} → begin ≡ pos b → end ≡ pos e → b < e → e ≤ length frames
+      → outFrames false false six frames begin end room ≡ output false false six (range b e frames) room
+  effect-within {b = b} {e = e} p q some h = rw (p, q, lt-ltb b e some, le-leb e (length frames) h)
 
   pub effect-past : {begin end : ℤ} {b e : ℕ} → begin ≡ pos b → end ≡ pos e → b < e → length frames < e
       → outFrames false false six frames begin end room ≡ refusal BadArg
@@ -116,12 +130,10 @@ module _ (rp : OpusRepacketizer) (h : Holding rp) (store : List ℕ) (stored : l
         (need-is false false six ns store from [] (omega (arith, part .block)) measured (rw (part .count) asks))
 
     output-of : outFrames false false six (held rp store) begin end room ≡ output false false six (range b e (held rp store)) room
-    output-of = rw (begins, ends, lt-ltb b e some, le-leb e (length (held rp store)) (omega (arith, length-held rp store h)))
+    output-of = effect-within six (held rp store) room begins ends some (omega (arith, length-held rp store h))
 
     pub need-short : room < need → outFrames false false six (held rp store) begin end room ≡ refusal BufferTooSmall
-    unfolding output
-    need-short k = output-of ∙ rw (lt-ltb room (length packet) (omega (arith, needs)))
+    need-short k = output-of ∙ output-short six (range b e (held rp store)) room (omega (arith, needs))
 
     pub need-fits : need ≤ room → outFrames false false six (held rp store) begin end room ≡ wrote need packet
-    unfolding output
-    need-fits k = output-of ∙ rw (le-ltb room (length packet) (omega (arith, needs)), ← needs)
+    need-fits k = output-of ∙ (output-fits six (range b e (held rp store)) room (omega (arith, needs)) ∙ ap (λ n. wrote n packet) (sym needs))

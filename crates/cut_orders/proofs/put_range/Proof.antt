@@ -1,0 +1,75 @@
+-- `cut_orders::put_range` meets its contract: the range of the lengths held, and where its frames stand in the store.
+-- Assumes nothing.
+use Prim.Native.Nat.{_<_}
+use mathlib.Core.Path.{_≡_, sym}
+use native.Mathlib.Omega.{arith}
+use borrow.Author.Needs.{needs}
+use lib.ListN.{take}
+use lib.Seq.{length-take-le}
+use Rattle.opus_toc.specs.Toc.{upperSix}
+use Rattle.opus_format.specs.Frames.{total}
+use Rattle.repacketizer.specs.Parts.{bare}
+use Rattle.repacketizer.proofs.Held.{Holding, holding}
+use Rattle.repacketizer_out.proofs.Ranges.{Part, part-of, part-from}
+use Rattle.cut_orders.proofs.Puts.{range-room, range-put}
+use Rattle.cut_orders.proofs.put_range.Statement.{statement}
+use Rattle.cut_orders.proofs.put_range.Tie as tie
+
+byte : (c : tie.Start) → c .args .h .toc < 256
+byte c = search needs
+
+part : (c : tie.Start) → let a = c .args in Part (bare (a .h) (a .len .now)) (a .b) (a .e)
+part c =
+    let a = c .args in
+    let holds : Holding (bare (a .h) (a .len .now)) = holding (bare (a .h) (a .len .now)) (byte c) (c .pre .0 .0) (c .pre .0 .1) in
+    part-of (bare (a .h) (a .len .now)) holds (a .b) (a .e) (c .pre .1 .0 .0) (c .pre .1 .0 .1)
+
+abbrev entry : tie.After-measure → tie.Start
+entry c = c .before .before .before .before .before
+
+slice-aggregate-measure : tie.Need-slice-aggregate-measure
+slice-aggregate-measure c =
+    let s = c .before .before .before .before in
+    sym (length-take-le (s .args .b) (s .args .len .now) (omega (arith, part s .inside, s .pre .1 .0 .0)))
+
+part-put-frames-end : tie.Need-part-put-frames-end
+part-put-frames-end c = part (entry (c .before)) .inside
+
+-- where it begins
+from : (c : tie.After-wide) → let a = entry (c .before .before .before) .args in c .wide .result ≡ total (take (a .b) (a .len .now))
+from c =
+    let m = c .before .before .before in
+    part-from (part (entry m)) (m .measure .result) (m .measure .ensures) (c .wide .ensures .0)
+
+put-frames-requires : tie.Need-put-frames-requires
+put-frames-requires c κs =
+    let s = entry (c .before .before .before) in
+    let a = s .args in
+    let p = part s in
+    (
+      (omega (arith, p .count, s .pre .1 .0 .0), omega (arith, p .count, p .few), p .small),
+      (omega (arith, from c, p .block, s .pre .1 .1 .0), range-room p (a .store .now) (from c) (upperSix (a .h .toc)) (s .pre .1 .1 .1)),
+    )
+
+returns : tie.Need-returns
+returns c =
+    let f = c .before .before in
+    let w = f .before in
+    let s = entry (w .before .before .before) in
+    let a = s .args in
+    range-put (part s) (a .store .now) (from w) (upperSix (a .h .toc)) (a .«data» .now) (f .put-frames .ensures .0) (f .put-frames .ensures .1)
+
+pub put-range-spec : {M : Type 1} → statement M
+put-range-spec =
+    tie.close
+    (tie.spec
+    slice-aggregate-measure
+    (λ c κs. search needs)
+    (λ c. search needs)
+    (λ c. search needs)
+    (λ c. search needs)
+    part-put-frames-end
+    (λ c κs. search needs)
+    put-frames-requires
+    (λ c. search needs)
+    returns)
