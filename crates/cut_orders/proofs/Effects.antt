@@ -1,5 +1,4 @@
 -- The single output of an order, unpadded and ordinary, as an effect.
---     refused-negative                                 a refusal is no number of bytes
 --     output-short, output-fits                        a range, by its room
 --     effect-whole                                     what is written has the bytes that are answered, and they are within the room
 --     effect-passed                                    a call is passed bits
@@ -19,10 +18,10 @@ use mir.Val.{SFits, ofZ, toZ}
 use mir.ValLaws.{toZ-ofZ}
 use borrow.Author.Tests.{ltb-true, ltb-false, lt-ltb, le-ltb, le-leb, lt-leb}
 use Rattle.laws.proofs.Never.{never, by-test}
-use Rattle.opus_defines.specs.Numbers.{refusalNumber, countOf}
+use Rattle.opus_defines.specs.Numbers.{countOf}
 use Rattle.opus_defines.specs.Outcome.{Effect, refusal, wrote, written, leaves}
 use Rattle.opus_defines.specs.declared.Refusal.{Refusal}
-use Rattle.opus_defines.specs.declared.Refusal.the-variants.{BadArg, BufferTooSmall, InvalidPacket, InvalidState, Unreadable, CutShort, DirtyPadding}
+use Rattle.opus_defines.specs.declared.Refusal.the-variants.{BadArg, BufferTooSmall}
 use Rattle.opus_defines.specs.declared.Count.the-variants.{Negative}
 use Rattle.opus_toc.specs.Toc.{upperSix}
 use Rattle.opus_format.specs.Frames.{cut, total}
@@ -36,15 +35,6 @@ use Rattle.repacketizer.proofs.Held.{Holding}
 use Rattle.repacketizer_out.specs.Output.{range, output, outFrames}
 use Rattle.repacketizer_out.proofs.Ranges.{Part, part-of, length-held}
 use Rattle.repacketizer_out.proofs.Put.{need-is}
-
-pub refused-negative : (e : Refusal) (n : ℕ) → refusalNumber e ≡ pos n → ⊥
-refused-negative BadArg n h = never (cc)
-refused-negative BufferTooSmall n h = never (cc)
-refused-negative InvalidPacket n h = never (cc)
-refused-negative InvalidState n h = never (cc)
-refused-negative (Unreadable rule place) n h = never (cc)
-refused-negative (CutShort rule) n h = never (cc)
-refused-negative DirtyPadding n h = never (cc)
 
 -- ---- what is written
 -- within so much room

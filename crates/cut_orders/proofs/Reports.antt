@@ -10,15 +10,15 @@ use mathlib.Core.Bool.{true, false}
 use lib.IntN.{ℤ, pos, negsuc}
 use borrow.Author.Tests.{lt-ltb, le-ltb}
 use Rattle.laws.proofs.Never.{never}
+use Rattle.opus_defines.specs.Bounds.{mostPacket}
 use Rattle.opus_defines.specs.Numbers.{numberOf, countOf}
 use Rattle.opus_defines.specs.declared.Answer.{Answer}
-use Rattle.opus_defines.specs.declared.Answer.the-variants.{Number, Refused}
 use Rattle.opus_defines.specs.declared.Count.the-variants.{Is, Negative}
 use Rattle.opus_defines.specs.declared.Refusal.the-variants.{BadArg, InvalidState}
 use Rattle.repacketizer.specs.declared.OpusRepacketizer.{OpusRepacketizer}
 use Rattle.repacketizer.specs.Collector.{leastStore, sound}
 use Rattle.cut_orders.specs.declared.OrderReport.{OrderReport}
-use Rattle.cut_orders.specs.Orders.{refusedAt, cutInto, begun, mostOrders, orderReport, turns}
+use Rattle.cut_orders.specs.Orders.{refusedAt, cutInto, begun, mostOrders, turns}
 
 -- ---- the report of an answer
 abbrev pub reported : Answer → ℕ → OrderReport
@@ -38,28 +38,25 @@ turns-all (negsuc t) n u e = never (cc)
 
 -- ---- what is refused before the orders
 module _ (rp : OpusRepacketizer) (store room orders : ℕ) where
-  pub begun-unsound : sound rp ≡ false → orderReport (begun rp store room orders) ≡ reported (Refused InvalidState) 0
+  pub begun-unsound : sound rp ≡ false → begun rp store room orders ≡ refusedAt 0 InvalidState
   unfolding begun
   begun-unsound s = rw s
 
   module _ (s : sound rp ≡ true) where
-    pub begun-tight : store < leastStore → orderReport (begun rp store room orders) ≡ reported (Refused BadArg) 0
+    pub begun-tight : store < leastStore → begun rp store room orders ≡ refusedAt 0 BadArg
     unfolding begun
     begun-tight h = rw (s, lt-ltb store leastStore h)
 
     module _ (h : leastStore ≤ store) where
-      pub begun-long : 65535 < room → orderReport (begun rp store room orders) ≡ reported (Refused BadArg) 0
+      pub begun-long : mostPacket < room → begun rp store room orders ≡ refusedAt 0 BadArg
       unfolding begun
-      begun-long k = rw (s, le-ltb store leastStore h, lt-ltb 65535 room k)
+      begun-long k = rw (s, le-ltb store leastStore h, lt-ltb mostPacket room k)
 
-      module _ (k : room ≤ 65535) where
-        pub begun-many : 48 < orders → orderReport (begun rp store room orders) ≡ reported (Refused BadArg) 0
+      module _ (k : room ≤ mostPacket) where
+        pub begun-crowded : mostOrders < orders → begun rp store room orders ≡ refusedAt 0 BadArg
         unfolding begun
-        begun-many m = rw (s, le-ltb store leastStore h, le-ltb 65535 room k, lt-ltb 48 orders m)
+        begun-crowded m = rw (s, le-ltb store leastStore h, le-ltb mostPacket room k, lt-ltb mostOrders orders m)
 
-        pub begun-ready : orders ≤ 48 → begun rp store room orders ≡ cutInto [] []
+        pub begun-ready : orders ≤ mostOrders → begun rp store room orders ≡ cutInto [] []
         unfolding begun
-        begun-ready m = rw (s, le-ltb store leastStore h, le-ltb 65535 room k, le-ltb 48 orders m)
-
-        pub begun-none : orders ≤ 48 → orderReport (begun rp store room orders) ≡ reported (Number 0) 0
-        begun-none m = rw (begun-ready m)
+        begun-ready m = rw (s, le-ltb store leastStore h, le-ltb mostPacket room k, le-ltb mostOrders orders m)

@@ -2,9 +2,6 @@
 --     each-refused, each-wrote, each-stopped, each-none     the orders one by one
 --     many-unsound, many-tight, many-long, many-crowded     what is refused before them
 --     many-sound                                            and what is not
---     Within, one-fits                                      one order writes no more than the destination has left, and counts what it writes
---     one-within, one-written, one-refused                  one order whose range is one of the frames held
---     refusal-negative, refusal-not                         a refusal's number
 --     written-behind                                        a packet behind those that are written
 --     singly-wrote, singly-refused                          single calls, one more
 --     Agrees, each-agrees, Same, many-same                  the orders one by one against single calls one by one
@@ -17,31 +14,31 @@ use native.Mathlib.Nat.{zero-add}
 use native.Mathlib.Omega.{arith}
 use mathlib.Core.Path.{_≡_, refl, sym, ap, _∙_}
 use mathlib.Core.List.{List, [], _∷_, _++_, map, append-nil, append-assoc}
-use mathlib.Core.Bool.{true, false, _&&_}
-use lib.Dec.{ltb, leb}
+use mathlib.Core.Bool.{true, false}
+use lib.Dec.{ltb}
 use lib.IntN.{ℤ, pos, negsuc}
 use lib.ListN.{length, take, drop, length-append, length-drop, length-map}
 use lib.Seq.{sets, sets-eq, length-sets, drop-drop}
-use borrow.Author.Tests.{lt-ltb, le-ltb, le-leb, ltb-false}
 use Rattle.laws.proofs.Never.{never, cond-elim}
 use Rattle.opus_defines.specs.Bounds.{mostPacket}
-use Rattle.opus_defines.specs.Numbers.{refusalNumber}
-use Rattle.opus_defines.specs.Outcome.{Effect, refusal, wrote, written, Outcome, leaves}
+use Rattle.opus_defines.specs.Outcome.{Effect, refusal, wrote, Outcome, leaves}
 use Rattle.opus_defines.specs.declared.Refusal.{Refusal}
-use Rattle.opus_defines.specs.declared.Refusal.the-variants.{BadArg, BufferTooSmall, InvalidPacket, InvalidState, Unreadable, CutShort, DirtyPadding}
+use Rattle.opus_defines.specs.declared.Refusal.the-variants.{BadArg, InvalidState}
+use Rattle.opus_defines.proofs.Outcomes.{refusal-negative, refusal-not}
 use Rattle.opus_toc.specs.Toc.{upperSix}
 use Rattle.opus_format.specs.Frames.{total}
 use Rattle.opus_format.proofs.Frames.{total-snoc}
 use Rattle.blocks.proofs.Sets.{sets-append, drop-sets-past}
-use Rattle.opus_header.specs.Compact.{compact}
 use Rattle.repacketizer.specs.declared.OpusRepacketizer.{OpusRepacketizer}
 use Rattle.repacketizer.specs.Collector.{held, leastStore, sound}
-use Rattle.repacketizer_out.specs.Output.{range, output, outFrames, outRange}
+use Rattle.repacketizer_out.specs.Output.{outFrames, outRange}
 use Rattle.repacketizer_out.proofs.Outputs.{out-sound}
 use Rattle.cut_orders.specs.declared.Order.{Order}
 use Rattle.cut_orders.specs.Orders.{Cutting, refusedAt, cutInto, behind, each, mostOrders, begun, cutting, orderReport}
 use Rattle.cut_orders.specs.Orders.{withLength, withLengths, ManyOutcome, leavesMany, outMany}
 use Rattle.cut_orders.specs.Singly.{Singles, andThen, singly}
+use Rattle.cut_orders.proofs.Reports.{begun-unsound, begun-tight, begun-long, begun-crowded, begun-ready}
+use Rattle.cut_orders.proofs.Effects.{Whole, stopped, put, effect-whole}
 
 -- ---- the call by its tests
 -- orders behind a refused one, or behind a refusal that is no order's, are not looked at
@@ -80,77 +77,24 @@ module _ (rp : OpusRepacketizer) (store : List ℕ) (orders : List Order) (dst :
   guarded e b = rw (b, each-refused six (held rp store) (length dst) orders 0 e)
 
   pub many-unsound : sound rp ≡ false → outMany rp store orders dst ≡ leavesMany orders dst (refusedAt 0 InvalidState)
-  unfolding begun
-  many-unsound s = guarded InvalidState (rw s)
+  many-unsound s = guarded InvalidState (begun-unsound rp (length store) (length dst) (length orders) s)
 
   module _ (s : sound rp ≡ true) where
     pub many-tight : length store < leastStore → outMany rp store orders dst ≡ leavesMany orders dst (refusedAt 0 BadArg)
-    unfolding begun
-    many-tight h = guarded BadArg (rw (s, lt-ltb (length store) leastStore h))
+    many-tight h = guarded BadArg (begun-tight rp (length store) (length dst) (length orders) s h)
 
     module _ (h : leastStore ≤ length store) where
       pub many-long : mostPacket < length dst → outMany rp store orders dst ≡ leavesMany orders dst (refusedAt 0 BadArg)
-      unfolding begun
-      many-long k = guarded BadArg (rw (s, le-ltb (length store) leastStore h, lt-ltb mostPacket (length dst) k))
+      many-long k = guarded BadArg (begun-long rp (length store) (length dst) (length orders) s h k)
 
       module _ (k : length dst ≤ mostPacket) where
         pub many-crowded : mostOrders < length orders → outMany rp store orders dst ≡ leavesMany orders dst (refusedAt 0 BadArg)
-        unfolding begun
-        many-crowded n =
-            guarded BadArg (rw (s, le-ltb (length store) leastStore h, le-ltb mostPacket (length dst) k, lt-ltb mostOrders (length orders) n))
+        many-crowded n = guarded BadArg (begun-crowded rp (length store) (length dst) (length orders) s h k n)
 
         pub many-sound : length orders ≤ mostOrders
             → outMany rp store orders dst ≡ leavesMany orders dst (each six (held rp store) (length dst) orders (cutInto [] []))
-        unfolding outMany begun
-        many-sound n =
-            rw (s, le-ltb (length store) leastStore h, le-ltb mostPacket (length dst) k, le-ltb mostOrders (length orders) n)
-
--- ---- one order
--- what is written fits, and is counted
-abbrev pub Within : ℕ → Effect → Type 0
-Within room (refusal e) = Unit {0}
-Within room (wrote n vs) = (n ≡ length vs) × (length vs ≤ room)
-
-module _ (six : ℕ) (frames : List (List ℕ)) (room : ℕ) where
-  output-fits : (fs : List (List ℕ)) → Within room (output false false six fs room)
-  unfolding output
-  output-fits fs =
-      let n = length (compact false six fs) in
-      cond-elim (Within room) (ltb room n) (refusal BufferTooSmall) (written (compact false six fs)) (λ t. tt) (λ t. (refl, ltb-false room n t))
-
-  pub one-fits : (begin end : ℤ) → Within room (outFrames false false six frames begin end room)
-  one-fits (negsuc b) end = tt
-  one-fits (pos b) (negsuc e) = tt
-  one-fits (pos b) (pos e) =
-      cond-elim (Within room) (ltb b e && leb e (length frames)) (output false false six (range b e frames) room) (refusal BadArg)
-      (λ t. output-fits (range b e frames)) (λ t. tt)
-
-  -- a range of the frames
-  pub one-within : (begin end : ℤ) {b e : ℕ} → begin ≡ pos b → end ≡ pos e → b < e → e ≤ length frames
-      → outFrames false false six frames begin end room ≡ output false false six (range b e frames) room
-  one-within begin end {b} {e} p q some within = rw (p, q, lt-ltb b e some, le-leb e (length frames) within)
-
-  pub one-written : (fs : List (List ℕ)) → length (compact false six fs) ≤ room
-      → output false false six fs room ≡ wrote (length (compact false six fs)) (compact false six fs)
-  unfolding output
-  one-written fs h = rw (le-ltb room (length (compact false six fs)) h)
-
-  pub one-refused : (fs : List (List ℕ)) → room < length (compact false six fs) → output false false six fs room ≡ refusal BufferTooSmall
-  unfolding output
-  one-refused fs h = rw (lt-ltb room (length (compact false six fs)) h)
-
--- a refusal's number is negative
-pub refusal-negative : (e : Refusal) → (n : ℕ) × (refusalNumber e ≡ negsuc n)
-refusal-negative BadArg = (0, refl)
-refusal-negative BufferTooSmall = (1, refl)
-refusal-negative InvalidPacket = (3, refl)
-refusal-negative InvalidState = (5, refl)
-refusal-negative (Unreadable rule place) = (3, refl)
-refusal-negative (CutShort rule) = (0, refl)
-refusal-negative DirtyPadding = (19, refl)
-
-pub refusal-not : (e : Refusal) {n : ℕ} → refusalNumber e ≡ pos n → ⊥
-refusal-not e h = let z = refusal-negative e .1 in never (cc)
+        unfolding outMany
+        many-sound n = rw (begun-ready rp (length store) (length dst) (length orders) s h k n)
 
 -- ---- the destination
 -- a run of stores in what stands behind `at` is one in the whole
@@ -229,25 +173,22 @@ module _ (rp : OpusRepacketizer) (store : List ℕ) (s : sound rp ≡ true) (h :
   unfolding each singly
   each-agrees [] ls bs m = (refl, (sym (append-nil ls), refl))
   each-agrees (o ∷ os) ls bs m =
-      go (one o bs) (call-is o bs) (one-fits (upperSix (rp .toc)) (held rp store) (length dst - length bs) (o .begin) (o .end))
+      go (one o bs) (call-is o bs) (effect-whole (upperSix (rp .toc)) (held rp store) (length dst - length bs) (o .begin) (o .end))
       (λ vs. each-agrees os (ls ++ length vs ∷ []) (bs ++ vs))
     where
-      go : (x : Effect) → outRange false false rp store (o .begin) (o .end) (rest bs) ≡ leaves (rest bs) x → Within (length dst - length bs) x
+      go : (x : Effect) → outRange false false rp store (o .begin) (o .end) (rest bs) ≡ leaves (rest bs) x → Whole (length dst - length bs) x
           → ((vs : List ℕ) → length (bs ++ vs) ≤ length dst
           → Agrees dst (ls ++ length vs ∷ []) (ones os (cutInto (ls ++ length vs ∷ []) (bs ++ vs))) (calls os (ls ++ length vs ∷ []) (bs ++ vs)))
           → Agrees dst ls (ones os (behind ls bs x)) (calls (o ∷ os) ls bs)
-      go (refusal e) is w f =
+      go x is (stopped e) f =
           let z = refusal-negative e in
           rw (
             each-refused (upperSix (rp .toc)) (held rp store) (length dst) os (length ls + 1) e,
             singly-refused rp store o os (length ls + 1) (length bs) (sets dst 0 bs) (leaves (rest bs) (refusal e)) is (z .0) (z .1),
             z .1,
           )
-      go (wrote n vs) is w f =
-          let wrote-is : wrote n vs ≡ wrote (length vs) vs = ap (λ m. wrote m vs) (w .0) in
-          rw (w .0)
-          (more-agree o os ls bs vs m (w .1) (is ∙ ap (leaves (rest bs)) wrote-is) (ones os (cutInto (ls ++ length vs ∷ []) (bs ++ vs)))
-          (f vs (omega (arith, w .1, length-append bs vs))))
+      go x is (put vs w) f =
+          more-agree o os ls bs vs m w is (ones os (cutInto (ls ++ length vs ∷ []) (bs ++ vs))) (f vs (omega (arith, w, length-append bs vs)))
 
 -- ---- the call
 -- its answer against that of single calls; where they are not refused what both leave; and what it leaves where they are
@@ -287,17 +228,18 @@ unfolding each
 each-went six frames room [] ls bs t = (omega arith, t)
 each-went six frames room (o ∷ os) ls bs t =
     let left = room - length bs in
-    go (outFrames false false six frames (o .begin) (o .end) left) (one-fits six frames left (o .begin) (o .end))
+    go (outFrames false false six frames (o .begin) (o .end) left) (effect-whole six frames left (o .begin) (o .end))
     (λ n vs. each-went six frames room os (ls ++ n ∷ []) (bs ++ vs))
   where
-    go : (x : Effect) → Within (room - length bs) x
+    go : (x : Effect) → Whole (room - length bs) x
         → ((n : ℕ) (vs : List ℕ) → total (ls ++ n ∷ []) ≡ length (bs ++ vs)
         → Went (length (ls ++ n ∷ [])) (length os) (each six frames room os (cutInto (ls ++ n ∷ []) (bs ++ vs))))
         → Went (length ls) (suc (length os)) (each six frames room os (behind ls bs x))
-    go (refusal e) w f = rw (each-refused six frames room os (length ls + 1) e) (omega arith, omega arith)
-    go (wrote n vs) w f =
+    go x (stopped e) f = rw (each-refused six frames room os (length ls + 1) e) (omega arith, omega arith)
+    go x (put vs w) f =
+        let n = length vs in
         went-more (length ls) (length os) (each six frames room os (cutInto (ls ++ n ∷ []) (bs ++ vs)))
-        (rw (length-append ls (n ∷ [])) at (f n vs (omega (arith, t, w .0, total-snoc ls n, length-append bs vs))))
+        (rw (length-append ls (n ∷ [])) at (f n vs (omega (arith, t, total-snoc ls n, length-append bs vs))))
 
 -- ---- what a call leaves, whatever its orders come to
 module _ (os : List Order) (dst : List ℕ) where

@@ -2,15 +2,18 @@
 --     refusal-keeps     a refusal leaves every byte: one law for every call
 --     meets             the two parts of an answer, from what the code answers and leaves
 --     rule-number       an unreadable packet is -4
+--     refusal-negative, refusal-not     a refusal's number is negative
 -- Assumes nothing.
 use Prim.Native.Nat.{ℕ}
 use mathlib.Core.Path.{_≡_, refl}
 use mathlib.Core.List.{List}
-use lib.IntN.{negsuc}
+use lib.IntN.{pos, negsuc}
 use Rattle.laws.proofs.Never.{never}
 use Rattle.opus_defines.specs.Numbers.{refusalNumber}
 use Rattle.opus_defines.specs.Rules.{ruleRefusal}
 use Rattle.opus_defines.specs.Outcome.{Effect, refusal, wrote, Outcome, leaves}
+use Rattle.opus_defines.specs.declared.Refusal.{Refusal}
+use Rattle.opus_defines.specs.declared.Refusal.the-variants.{BadArg, BufferTooSmall, InvalidPacket, InvalidState, Unreadable, CutShort, DirtyPadding}
 use Rattle.opus_defines.specs.declared.Rule.{Rule}
 use Rattle.opus_defines.specs.declared.Report.{Report}
 
@@ -24,3 +27,15 @@ meets e a b = rw e (a, b)
 pub rule-number : (r : Rule) (place : ℕ) → refusalNumber (ruleRefusal r place) ≡ negsuc 3
 unfolding ruleRefusal
 rule-number r place = refl
+
+pub refusal-negative : (e : Refusal) → (n : ℕ) × (refusalNumber e ≡ negsuc n)
+refusal-negative BadArg = (0, refl)
+refusal-negative BufferTooSmall = (1, refl)
+refusal-negative InvalidPacket = (3, refl)
+refusal-negative InvalidState = (5, refl)
+refusal-negative (Unreadable rule place) = (3, refl)
+refusal-negative (CutShort rule) = (0, refl)
+refusal-negative DirtyPadding = (19, refl)
+
+pub refusal-not : (e : Refusal) {n : ℕ} → refusalNumber e ≡ pos n → ⊥
+refusal-not e h = let z = refusal-negative e .1 in never (cc)
