@@ -6,3 +6,5 @@ pub mod Singly
 pub mod CutLaw
 pub mod Promises
 pub mod Examples
+pub mod Each
+pub mod Slices

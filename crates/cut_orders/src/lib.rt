@@ -214,7 +214,14 @@ fn put_order(
         .bytes ⌝ }
 {
     let from = at as usize;
-    let n = put_range(h, len, store, begin as usize, end as usize, &mut data[from..]);
+    let n = put_range(
+        h,
+        len,
+        store,
+        begin as usize,
+        end as usize,
+        &mut data[from..],
+    );
     n as u32
 }
 

@@ -69,9 +69,11 @@ returns-4 c =
     let k = w .before .before in
     let s = entry k in
     let a = s .args in
-    let past : a .h .«nb_frames» < k .before .e .given .0 .0 = omega (arith, w .wide .ensures .0) in
-    (omega arith, λ store dst j.
-    rw (held-past (bare (a .h) (a .len .now)) (holds s) store j (a .room) (begins k) (ends k) (w .before .if1 .left) past))
+    let past : a .h .«nb_frames» < k .before .e .given .0 .0 = omega (arith, w .wide .ensures .0) in (
+      omega arith,
+      λ store dst j.
+          rw (held-past (bare (a .h) (a .len .now)) (holds s) store j (a .room) (begins k) (ends k) (w .before .if1 .left) past),
+    )
 
 -- ---- the range is within the frames held
 abbrev told : tie.Else2 → tie.After-known-told2
@@ -110,10 +112,12 @@ returns-5 c =
     let m = n .before in
     let i = m .before .before in
     let s = entry (told i) in
-    let a = s .args in
-    (omega arith, λ store dst j.
-    rw (need-short (bare (a .h) (a .len .now)) (holds s) store j (a .room) (begins (told i)) (ends (told i)) (i .before .before .if1 .left) (within i)
-    (m .sums-of .ensures) (n .compact-bytes .ensures) (c .if3 .taken)))
+    let a = s .args in (
+      omega arith,
+      λ store dst j.
+          rw (need-short (bare (a .h) (a .len .now)) (holds s) store j (a .room) (begins (told i)) (ends (told i)) (i .before .before .if1 .left) (within i)
+          (m .sums-of .ensures) (n .compact-bytes .ensures) (c .if3 .taken)),
+    )
 
 returns-6 : tie.Need-returns-6
 returns-6 c =
@@ -121,10 +125,12 @@ returns-6 c =
     let m = n .before in
     let i = m .before .before in
     let s = entry (told i) in
-    let a = s .args in
-    (c .if3 .left, λ store dst j.
-    rw (need-fits (bare (a .h) (a .len .now)) (holds s) store j (a .room) (begins (told i)) (ends (told i)) (i .before .before .if1 .left) (within i)
-    (m .sums-of .ensures) (n .compact-bytes .ensures) (c .if3 .left)))
+    let a = s .args in (
+      c .if3 .left,
+      λ store dst j.
+          rw (need-fits (bare (a .h) (a .len .now)) (holds s) store j (a .room) (begins (told i)) (ends (told i)) (i .before .before .if1 .left) (within i)
+          (m .sums-of .ensures) (n .compact-bytes .ensures) (c .if3 .left)),
+    )
 
 pub need-of-spec : {M : Type 1} → statement M
 need-of-spec =

@@ -54,8 +54,7 @@ put-range-requires c κs =
     let s = entry k in
     let a = s .args in
     let frames = held (bare (a .h) (a .len .now)) (a .store .now) in
-    let r = passed-range (upperSix (a .h .toc)) frames (s .fits .begin) (s .fits .end) (a .«data» .now) (a .at) (takes k) in
-    (
+    let r = passed-range (upperSix (a .h .toc)) frames (s .fits .begin) (s .fits .end) (a .«data» .now) (a .at) (takes k) in (
       (long k, s .pre .0),
       (
         (r .0, omega (arith, r .1, few k)),

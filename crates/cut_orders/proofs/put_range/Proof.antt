@@ -45,8 +45,7 @@ put-frames-requires : tie.Need-put-frames-requires
 put-frames-requires c κs =
     let s = entry (c .before .before .before) in
     let a = s .args in
-    let p = part s in
-    (
+    let p = part s in (
       (omega (arith, p .count, s .pre .1 .0 .0), omega (arith, p .count, p .few), p .small),
       (omega (arith, from c, p .block, s .pre .1 .1 .0), range-room p (a .store .now) (from c) (upperSix (a .h .toc)) (s .pre .1 .1 .1)),
     )
