@@ -35,7 +35,8 @@ use Rattle.repacketizer.proofs.OpusRepacketizer as T
 use Rattle.repacketizer.proofs.OpusRepacketizer.Laws as T′
 use Rattle.repacketizer.proofs.Head as D
 use Rattle.repacketizer.proofs.Head.Laws as D′
-use Rattle.aveluafi.proofs.Lent.{Holds, Stand, values}
+use Rattle.walks.proofs.Steps.{Holds}
+use Rattle.walks.proofs.Lent.{Stand, values}
 
 -- the machine values of a collector, of its fields, and of its head
 abbrev pub vals : OpusRepacketizer → List Val

@@ -7,4 +7,3 @@ pub mod CutLaw
 pub mod Promises
 pub mod Examples
 pub mod Each
-pub mod Slices

@@ -50,7 +50,7 @@ fn order_at(input: &mut [u8], c: Cursor) -> OrderAt {
 }
 
 // The room, the orders, of which the first n count, and where the input goes on, if the case is whole so far.
-struct Orders {
+struct Wanted {
     whole: bool,
     next: usize,
     end: usize,
@@ -60,8 +60,8 @@ struct Orders {
     list: [Order; 255],
 }
 
-fn some_orders(c: Cursor, whole: bool, room: usize, n: u8, list: [Order; 255]) -> Orders {
-    Orders {
+fn wanted(c: Cursor, whole: bool, room: usize, n: u8, list: [Order; 255]) -> Wanted {
+    Wanted {
         whole,
         next: c.at,
         end: c.end,
@@ -81,8 +81,8 @@ fn no_list() -> [Order; 255] {
     [none; 255]
 }
 
-fn no_orders() -> Orders {
-    Orders {
+fn none_wanted() -> Wanted {
+    Wanted {
         whole: false,
         next: 0,
         end: 0,
@@ -93,35 +93,35 @@ fn no_orders() -> Orders {
     }
 }
 
-fn list_at(input: &mut [u8], c: Cursor, room: usize, n: u8) -> Orders {
+fn list_at(input: &mut [u8], c: Cursor, room: usize, n: u8) -> Wanted {
     let mut list = no_list();
     let mut next = c;
     let mut i: usize = 0;
     while i < 255 {
         if (n as usize) <= i {
-            return some_orders(next, true, room, n, list);
+            return wanted(next, true, room, n, list);
         }
         let OrderAt::Is(o, d) = order_at(input, next) else {
-            return some_orders(next, false, room, n, list);
+            return wanted(next, false, room, n, list);
         };
         list[i] = o;
         next = d;
         i += 1;
     }
-    some_orders(next, true, room, n, list)
+    wanted(next, true, room, n, list)
 }
 
-fn orders_at(input: &mut [u8], c: Cursor) -> Orders {
+fn orders_at(input: &mut [u8], c: Cursor) -> Wanted {
     let NumberAt::Is(room, d) = length(input, c) else {
-        return no_orders();
+        return none_wanted();
     };
     let ByteAt::Is(n, e) = byte(input, d) else {
-        return no_orders();
+        return none_wanted();
     };
     list_at(input, e, room, n)
 }
 
-fn behind(o: Orders) -> Cursor {
+fn behind(o: Wanted) -> Cursor {
     Cursor {
         at: o.next,
         end: o.end,
@@ -158,7 +158,7 @@ fn out_many(
 }
 
 // The call into so many bytes of `work`, all unset before it.
-fn many(rp: OpusRepacketizer, store: &[u8], o: Orders, work: &mut [u8]) -> Answered {
+fn many(rp: OpusRepacketizer, store: &[u8], o: Wanted, work: &mut [u8]) -> Answered {
     let room = o.room;
     let list = o.list;
     if work.len() < room {
@@ -180,7 +180,7 @@ fn many(rp: OpusRepacketizer, store: &[u8], o: Orders, work: &mut [u8]) -> Answe
 
 // ---- its line
 
-fn order(out: &mut [u8], at: usize, o: Order) -> usize {
+fn order_told(out: &mut [u8], at: usize, o: Order) -> usize {
     let a = put(out, at, b' ');
     let b = number(out, a, o.begin);
     let c = put(out, b, b' ');
@@ -190,14 +190,14 @@ fn order(out: &mut [u8], at: usize, o: Order) -> usize {
 }
 
 // The first n orders, each behind a space.
-fn orders(out: &mut [u8], at: usize, list: [Order; 255], n: u8) -> usize {
+fn list_told(out: &mut [u8], at: usize, list: [Order; 255], n: u8) -> usize {
     let mut next = at;
     let mut i: usize = 0;
     while i < 255 {
         if (n as usize) <= i {
             return next;
         }
-        next = order(out, next, list[i]);
+        next = order_told(out, next, list[i]);
         i += 1;
     }
     next
@@ -208,7 +208,7 @@ fn told(out: &mut [u8], at: usize, r: OrderReport, list: [Order; 255], n: u8) ->
     let b = put(out, a, b' ');
     let c = decimal(out, b, r.position as usize);
     let d = text(out, c, b" ;");
-    let e = orders(out, d, list, n);
+    let e = list_told(out, d, list, n);
     text(out, e, b" ; ")
 }
 

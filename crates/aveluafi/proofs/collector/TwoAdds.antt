@@ -55,8 +55,8 @@ use Rattle.repacketizer.specs.declared.OpusRepacketizer.{OpusRepacketizer}
 use Rattle.repacketizer.specs.Adding.{Adding, addedReport, addedBy}
 use Rattle.repacketizer.proofs.OpusRepacketizer as T
 use Rattle.repacketizer.proofs.OpusRepacketizer.Laws as T′
+use Rattle.walks.proofs.Steps.{freed, concluded, here, local}
 use Rattle.aveluafi.specs.Words.{reportIn}
-use Rattle.aveluafi.proofs.Lent.{freed, concluded, here, local}
 use Rattle.aveluafi.proofs.collector.cat_by as core
 use Rattle.aveluafi.proofs.collector.cat_by.Symbol as core-def
 use Rattle.aveluafi.proofs.collector.cat_by.Symbol.{name as #core}

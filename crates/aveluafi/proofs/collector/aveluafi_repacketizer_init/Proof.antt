@@ -37,7 +37,8 @@ use Rattle.repacketizer.specs.declared.OpusRepacketizer.{OpusRepacketizer}
 use Rattle.repacketizer.specs.Collector.{empty}
 use Rattle.repacketizer.proofs.OpusRepacketizer as T
 use Rattle.repacketizer.proofs.OpusRepacketizer.Laws as T′
-use Rattle.aveluafi.proofs.Lent.{Stand, opened, closed, freed, concluded, here}
+use Rattle.walks.proofs.Steps.{freed, concluded, here}
+use Rattle.walks.proofs.Lent.{Stand, opened, closed}
 use Rattle.aveluafi.proofs.Heads.{vals, to-toc, to-count, to-size, to-lengths, to-packets, in-toc, in-count, in-size, in-lengths, in-packets}
 use Rattle.aveluafi.proofs.collector.aveluafi_repacketizer_init.Key.{name as #lent}
 use Rattle.aveluafi.proofs.collector.aveluafi_repacketizer_init as f

@@ -48,7 +48,8 @@ use Rattle.repacketizer.specs.declared.OpusRepacketizer.{OpusRepacketizer}
 use Rattle.repacketizer.proofs.OpusRepacketizer as T
 use Rattle.repacketizer.proofs.OpusRepacketizer.Laws as T′
 use Rattle.repacketizer_out.specs.Output.{outAll}
-use Rattle.aveluafi.proofs.Lent.{looked, shut, freed, concluded, here, local}
+use Rattle.walks.proofs.Steps.{freed, concluded, here, local}
+use Rattle.walks.proofs.Lent.{looked, shut}
 use Rattle.aveluafi.proofs.Heads.{count-is, count-fits, count-read, count-typed, count-few}
 use Rattle.aveluafi.proofs.collector.aveluafi_repacketizer_out_range_impl as core
 use Rattle.aveluafi.proofs.collector.aveluafi_repacketizer_out_range_impl.Symbol as core-def

@@ -54,8 +54,9 @@ use Rattle.cut_orders.specs.Orders.{outMany}
 use Rattle.cut_orders.proofs.Order as O
 use Rattle.cut_orders.proofs.OrderReport as R
 use Rattle.cut_orders.proofs.OrderReport.Laws as R′
-use Rattle.aveluafi.proofs.Lent.{ShrLoan, looked, shut, freed, concluded, here, local}
-use Rattle.aveluafi.proofs.LentTwo.{lent-two-shr, back-two-shr}
+use Rattle.walks.proofs.Steps.{freed, concluded, here, local}
+use Rattle.walks.proofs.Lent.{ShrLoan, looked, shut}
+use Rattle.walks.proofs.LentTwo.{lent-two-shr, back-two-shr}
 use Rattle.aveluafi.proofs.Heads.{parts, head-vals, lengths-ref, packets-ref, head-is, toc-read, count-read, size-read}
 use Rattle.aveluafi.proofs.Heads.{lengths-at, packets-at, toc-typed, count-typed, size-typed, head-typed, lengths-stand, packets-stand}
 use Rattle.cut_orders.proofs.out_many_lent as core

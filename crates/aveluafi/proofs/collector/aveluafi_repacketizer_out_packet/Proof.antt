@@ -56,7 +56,8 @@ use Rattle.repacketizer_out.proofs.by_number.Range as G
 use Rattle.repacketizer_out.proofs.by_number.Range.Laws as G′
 use Rattle.repacketizer_out.proofs.Outputs.{meets}
 use Rattle.repacketizer_out.proofs.Numbered.{numbered-range}
-use Rattle.aveluafi.proofs.Lent.{ShrLoan, stand-long, looked, shut, lent-shr, back-shr, freed, concluded, here, local}
+use Rattle.walks.proofs.Steps.{freed, concluded, here, local}
+use Rattle.walks.proofs.Lent.{ShrLoan, stand-long, looked, shut, lent-shr, back-shr}
 use Rattle.aveluafi.proofs.Heads.{vals, parts, packets-ref, count-read, packets-at, toc-few, count-few, lengths-stand, packets-stand, count-typed}
 use Rattle.repacketizer_out.proofs.by_number.range_of as finder
 use Rattle.repacketizer_out.proofs.by_number.range_of.Symbol as finder-def

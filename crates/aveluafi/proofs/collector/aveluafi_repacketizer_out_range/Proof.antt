@@ -46,7 +46,7 @@ use denote.Exit.{yes}
 use Rattle.repacketizer.specs.declared.OpusRepacketizer.{OpusRepacketizer}
 use Rattle.repacketizer.proofs.OpusRepacketizer as T
 use Rattle.repacketizer_out.specs.Output.{outRange}
-use Rattle.aveluafi.proofs.Lent.{freed, concluded, here, local}
+use Rattle.walks.proofs.Steps.{freed, concluded, here, local}
 use Rattle.aveluafi.proofs.collector.aveluafi_repacketizer_out_range_impl as core
 use Rattle.aveluafi.proofs.collector.aveluafi_repacketizer_out_range_impl.Symbol as core-def
 use Rattle.aveluafi.proofs.collector.aveluafi_repacketizer_out_range_impl.Symbol.{name as #core}

@@ -63,9 +63,10 @@ use Rattle.repacketizer.proofs.AddedHead.Laws as O′
 use Rattle.opus_toc.proofs.Samples8k.Laws as S′
 use Rattle.opus_defines.proofs.Verdict as E
 use Rattle.opus_defines.proofs.Verdict.Laws as E′
+use Rattle.walks.proofs.Steps.{freed, concluded, here, local}
+use Rattle.walks.proofs.Lent.{MutLoan, Stand, opened, closed}
+use Rattle.walks.proofs.LentTwo.{lent-two-mut, back-two-mut}
 use Rattle.aveluafi.specs.Words.{reportIn}
-use Rattle.aveluafi.proofs.Lent.{MutLoan, Stand, opened, closed, freed, concluded, here, local}
-use Rattle.aveluafi.proofs.LentTwo.{lent-two-mut, back-two-mut}
 use Rattle.aveluafi.proofs.Heads.{vals, parts, head-vals, lengths-ref, packets-ref, head-is, to-toc, to-count, to-size, in-toc, in-count, in-size}
 use Rattle.aveluafi.proofs.Heads.{toc-read, count-read, size-read, lengths-at, packets-at}
 use Rattle.aveluafi.proofs.Heads.{toc-typed, count-typed, size-typed, head-typed, lengths-stand, packets-stand}

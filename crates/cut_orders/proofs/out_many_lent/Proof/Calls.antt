@@ -54,7 +54,7 @@ use Rattle.repacketizer.proofs.Head.Laws as D′
 use Rattle.repacketizer_out.specs.Output.{outFrames}
 use Rattle.cut_orders.specs.declared.OrderReport.{OrderReport}
 use Rattle.cut_orders.specs.Orders.{Cutting, begun, orderReport, next, turns, done as counted, natural}
-use Rattle.cut_orders.proofs.Slices.{SliceLoan, loaned-slice, ended-slice}
+use Rattle.walks.proofs.Slices.{SliceLoan, loaned-slice, ended-slice}
 use Rattle.cut_orders.proofs.OrderReport as R
 use Rattle.cut_orders.proofs.OrderReport.Laws as R′
 use Rattle.cut_orders.proofs.begin_orders as begins

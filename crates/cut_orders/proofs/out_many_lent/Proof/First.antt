@@ -43,7 +43,7 @@ use Rattle.cut_orders.specs.Orders.{Cutting, orderReport}
 use Rattle.cut_orders.proofs.Order as T
 use Rattle.cut_orders.proofs.Order.Laws as T′
 use Rattle.cut_orders.proofs.Each.{past}
-use Rattle.cut_orders.proofs.Slices.{here, local}
+use Rattle.walks.proofs.Steps.{here, local}
 use Rattle.cut_orders.proofs.next_order.Symbol.{name as #next}
 use Rattle.cut_orders.proofs.out_many_lent.Proof.Calls.{head-val, report-val, Heads, Reports, Lengths, Next, asks-next}
 use Rattle.cut_orders.proofs.out_many_lent.Proof.Locals.{locals, holds, rooms}

@@ -45,7 +45,7 @@ use Rattle.cut_orders.specs.Orders.{withLength}
 use Rattle.cut_orders.proofs.Order as T
 use Rattle.cut_orders.proofs.Order.Laws as T′
 use Rattle.cut_orders.proofs.Each.{past}
-use Rattle.cut_orders.proofs.Slices.{here, local}
+use Rattle.walks.proofs.Steps.{here, local}
 use Rattle.cut_orders.proofs.put_order.Symbol.{name as #put}
 use Rattle.cut_orders.proofs.out_many_lent.Proof.Calls.{head-val, Heads, Lengths, Bytes, Put, asks-put}
 use Rattle.cut_orders.proofs.out_many_lent.Proof.Locals.{locals, holds, room, rooms}

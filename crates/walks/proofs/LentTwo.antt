@@ -26,8 +26,8 @@ use ghost.Atoms.{Atoms}
 use types.Kit.{Goal, Soaks, Given, Item, ‵, raw, _⊛_, Seq, Step, step, _$_, _∵_, !, qed, move, use1, use2, split, split3, frame, each, assume, done}
 use types.SemTy.{Body}
 use denote.Memory.{partAt, mem}
-use Rattle.aveluafi.proofs.Lent.{words, Words, Stand, MutLoan, ShrLoan, Back, Kept, words-out, words-in, loaned-mut, ended-mut, back-mut}
-use Rattle.aveluafi.proofs.Lent.{loaned-shr, ended-shr, back-shr}
+use Rattle.walks.proofs.Lent.{words, Words, Stand, MutLoan, ShrLoan, Back, Kept, words-out, words-in, loaned-mut, ended-mut, back-mut}
+use Rattle.walks.proofs.Lent.{loaned-shr, ended-shr, back-shr}
 
 -- what is kept of a struct whose machine values are us while its fields j and k, which lie c and d bytes on, are out: once field j is back, what is
 -- kept while field k is out

@@ -1,0 +1,4 @@
+pub mod Steps
+pub mod Lent
+pub mod LentTwo
+pub mod Slices
