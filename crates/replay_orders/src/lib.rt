@@ -60,7 +60,7 @@ struct Wanted {
     list: [Order; 255],
 }
 
-fn wanted(c: Cursor, whole: bool, room: usize, n: u8, list: [Order; 255]) -> Wanted {
+fn some_wanted(c: Cursor, whole: bool, room: usize, n: u8, list: [Order; 255]) -> Wanted {
     Wanted {
         whole,
         next: c.at,
@@ -99,16 +99,16 @@ fn list_at(input: &mut [u8], c: Cursor, room: usize, n: u8) -> Wanted {
     let mut i: usize = 0;
     while i < 255 {
         if (n as usize) <= i {
-            return wanted(next, true, room, n, list);
+            return some_wanted(next, true, room, n, list);
         }
         let OrderAt::Is(o, d) = order_at(input, next) else {
-            return wanted(next, false, room, n, list);
+            return some_wanted(next, false, room, n, list);
         };
         list[i] = o;
         next = d;
         i += 1;
     }
-    wanted(next, true, room, n, list)
+    some_wanted(next, true, room, n, list)
 }
 
 fn orders_at(input: &mut [u8], c: Cursor) -> Wanted {
