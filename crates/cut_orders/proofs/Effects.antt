@@ -5,14 +5,14 @@
 --     effect-before, .., effect-past                   a range that is none of the frames held
 --     need-short, need-fits                            a range that is, by the bytes that its packet needs
 -- Assumes nothing.
-use Prim.Native.Nat.{ℕ, _+_, _-_, _≤_, _<_}
+use Prim.Native.Nat.{ℕ, _-_, _≤_, _<_}
 use native.Mathlib.Omega.{arith}
 use mathlib.Core.Path.{_≡_, refl, sym, ap, _∙_}
 use mathlib.Core.List.{List, []}
-use mathlib.Core.Bool.{Bool, true, false, cond, _&&_}
+use mathlib.Core.Bool.{false, _&&_}
 use lib.Dec.{ltb, leb}
 use lib.IntN.{ℤ, pos, negsuc}
-use lib.ListN.{length, take, drop, length-drop}
+use lib.ListN.{length, take}
 use mir.Syntax.{w32}
 use mir.Val.{SFits, ofZ, toZ}
 use mir.ValLaws.{toZ-ofZ}
@@ -24,7 +24,7 @@ use Rattle.opus_defines.specs.declared.Refusal.{Refusal}
 use Rattle.opus_defines.specs.declared.Refusal.the-variants.{BadArg, BufferTooSmall}
 use Rattle.opus_defines.specs.declared.Count.the-variants.{Negative}
 use Rattle.opus_toc.specs.Toc.{upperSix}
-use Rattle.opus_format.specs.Frames.{cut, total}
+use Rattle.opus_format.specs.Frames.{total}
 use Rattle.opus_header.specs.Compact.{compact}
 use Rattle.opus_header.specs.Sums.{sumsOf}
 use Rattle.opus_header.specs.Forms.{compactBytes}
