@@ -235,7 +235,8 @@ pub fn out_many_lent(
     orders: &mut [Order],
     data: &mut [u8],
 ) -> OrderReport
-    ensures { λ r. ⌜ (r ≡ outMany (collectorOf h (now (len .entry)) (now (packet .entry))) (now (store .entry)) (now (orders .entry)) (now («data» .entry)) .report)
+    ensures { λ r. ⌜ (r
+        ≡ outMany (collectorOf h (now (len .entry)) (now (packet .entry))) (now (store .entry)) (now (orders .entry)) (now («data» .entry)) .report)
         × (now (orders .exit)
         ≡ outMany (collectorOf h (now (len .entry)) (now (packet .entry))) (now (store .entry)) (now (orders .entry)) (now («data» .entry)) .orders)
         × (now («data» .exit)
