@@ -2,3 +2,4 @@ pub mod Steps
 pub mod Lent
 pub mod LentTwo
 pub mod Slices
+pub mod Prefix
