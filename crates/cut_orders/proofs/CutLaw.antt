@@ -32,8 +32,10 @@ use Rattle.repacketizer_out.proofs.Again.{ranges, outputs-packed}
 use Rattle.cut_orders.specs.declared.Order.{Order}
 use Rattle.cut_orders.specs.Orders.{refusedAt, cutInto, each, mostOrders, natural, withLengths, leavesMany, outMany}
 use Rattle.cut_orders.specs.Singly.{Consecutive, cutBytes, packetsBy}
-use Rattle.cut_orders.proofs.Effects.{effect-within, output-fits, output-short}
-use Rattle.cut_orders.proofs.Singly.{each-none, each-wrote, each-stopped, with-none, with-more, many-sound}
+use Rattle.repacketizer_out.proofs.Outputs.{output-fits, output-short}
+use Rattle.cut_orders.proofs.Effects.{effect-within}
+use Rattle.cut_orders.proofs.Orders.{each-none, each-wrote, each-stopped}
+use Rattle.cut_orders.proofs.Many.{with-none, with-more, many-sound}
 
 pub consecutive-few : (begin n : ℕ) (os : List Order) → Consecutive begin n os → begin + length os ≤ n
 consecutive-few begin n [] c = omega (arith, c)
@@ -66,10 +68,10 @@ module _ (six : ℕ) (frames : List (List ℕ)) (room : ℕ) where
         (omega (arith, consecutive-few end (length frames) os (c .1 .1 .1)))
 
     goes : length packet ≤ left → outFrames false false six frames (o .begin) (o .end) left ≡ wrote (length packet) packet
-    goes h = within ∙ output-fits six (range begin end frames) left h
+    goes h = within ∙ output-fits false false six (range begin end frames) left h
 
     stops : left < length packet → outFrames false false six frames (o .begin) (o .end) left ≡ refusal BufferTooSmall
-    stops h = within ∙ output-short six (range begin end frames) left h
+    stops h = within ∙ output-short false false six (range begin end frames) left h
 
   -- with room for all,
   pub each-cut : (os : List Order) (begin : ℕ) → Consecutive begin (length frames) os → (ls bs : List ℕ)

@@ -35,7 +35,7 @@ use Rattle.cut_orders.specs.Orders.{Cutting, refusedAt, cutInto, behind,
 use Rattle.cut_orders.specs.Orders.{withLength, withLengths, leavesMany}
 use Rattle.cut_orders.proofs.Reports.{begun-unsound, begun-tight, begun-long, begun-crowded, begun-ready}
 use Rattle.cut_orders.proofs.Effects.{Whole, stopped, put, effect-whole}
-use Rattle.cut_orders.proofs.Singly.{each-refused, each-none, written-behind}
+use Rattle.cut_orders.proofs.Orders.{each-refused, each-none, written-behind}
 
 -- ---- a refusal is no length
 refused-turns : (e : Refusal) (n : ℕ) → turns (refusalNumber e) n ≡ 0
@@ -316,7 +316,7 @@ module _ (six : ℕ) (frames : List (List ℕ)) (os : List Order) (dst : List �
     pub put-bytes : take (placeAt k) (bytesAt k) ++ leaves (drop (placeAt k) (bytesAt k)) (effectAt k) .bytes ≡ bytesAt (suc k)
     put-bytes =
         ap (λ (x : Effect). take (placeAt k) (bytesAt k) ++ leaves (drop (placeAt k) (bytesAt k)) x .bytes) put-writes
-        ∙ rw (was-bytes, was-place) (written-behind dst (t .bytes) (t .packet) (omega (arith, t .fits)) (omega (arith, t .fits)))
+        ∙ rw (was-bytes, was-place) (written-behind dst (t .bytes) (t .packet) (omega (arith, t .fits)))
         ∙ sym (ap (λ (c : Cutting). leavesMany os dst c .bytes) (t .after))
 
     pub put-list : set (listAt k) k (withLength (length (t .packet)) (getD (listAt k) k past)) ≡ listAt (suc k)

@@ -1,5 +1,4 @@
 -- The single output of an order, unpadded and ordinary, as an effect.
---     output-short, output-fits                        a range, by its room
 --     effect-whole                                     what is written has the bytes that are answered, and they are within the room
 --     effect-passed                                    a call is passed bits
 --     effect-before, .., effect-past                   a range that is none of the frames held
@@ -34,6 +33,7 @@ use Rattle.repacketizer.specs.Collector.{held, leastStore}
 use Rattle.repacketizer.proofs.Held.{Holding}
 use Rattle.repacketizer_out.specs.Output.{range, output, outFrames}
 use Rattle.repacketizer_out.proofs.Ranges.{Part, part-of, length-held}
+use Rattle.repacketizer_out.proofs.Outputs.{output-short, output-fits}
 use Rattle.repacketizer_out.proofs.Put.{need-is}
 
 -- ---- what is written
@@ -42,22 +42,13 @@ pub data Whole (room : ℕ) : Effect → Type 0 where
   stopped : (e : Refusal) → Whole room (refusal e)
   put : (vs : List ℕ) → length vs ≤ room → Whole room (written vs)
 
--- by the room
 module _ (six : ℕ) (frames : List (List ℕ)) (room : ℕ) where
-  pub output-short : room < length (compact false six frames) → output false false six frames room ≡ refusal BufferTooSmall
-  unfolding output
-  output-short h = rw (lt-ltb room (length (compact false six frames)) h)
-
-  pub output-fits : length (compact false six frames) ≤ room → output false false six frames room ≡ written (compact false six frames)
-  unfolding output
-  output-fits h = rw (le-ltb room (length (compact false six frames)) h)
-
   output-whole : Whole room (output false false six frames room)
   output-whole =
       let packet = compact false six frames in
       by-test (ltb room (length packet))
-      (λ t. rw (output-short (ltb-true room (length packet) t)) (stopped BufferTooSmall))
-      (λ t. let h = ltb-false room (length packet) t in rw (output-fits h) (put packet h))
+      (λ t. rw (output-short false false six frames room (ltb-true room (length packet) t)) (stopped BufferTooSmall))
+      (λ t. let h = ltb-false room (length packet) t in rw (output-fits false false six frames room h) (put packet h))
 
 module _ (six : ℕ) (frames : List (List ℕ)) (room : ℕ) where
   pub effect-whole : (begin end : ℤ) → Whole room (outFrames false false six frames begin end room)
@@ -123,7 +114,7 @@ module _ (rp : OpusRepacketizer) (h : Holding rp) (store : List ℕ) (stored : l
     output-of = effect-within six (held rp store) room begins ends some (omega (arith, length-held rp store h))
 
     pub need-short : room < need → outFrames false false six (held rp store) begin end room ≡ refusal BufferTooSmall
-    need-short k = output-of ∙ output-short six (range b e (held rp store)) room (omega (arith, needs))
+    need-short k = output-of ∙ output-short false false six (range b e (held rp store)) room (omega (arith, needs))
 
     pub need-fits : need ≤ room → outFrames false false six (held rp store) begin end room ≡ wrote need packet
-    need-fits k = output-of ∙ (output-fits six (range b e (held rp store)) room (omega (arith, needs)) ∙ ap (λ n. wrote n packet) (sym needs))
+    need-fits k = output-of ∙ (output-fits false false six (range b e (held rp store)) room (omega (arith, needs)) ∙ ap (λ n. wrote n packet) (sym needs))

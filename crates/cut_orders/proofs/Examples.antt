@@ -25,7 +25,7 @@ use Rattle.repacketizer_out.proofs.Again.{pieces-held}
 use Rattle.cut_orders.specs.declared.Order.{Order}
 use Rattle.cut_orders.specs.declared.OrderReport.{OrderReport}
 use Rattle.cut_orders.specs.Orders.{cutInto, each, withLengths, ManyOutcome, leavesMany, outMany}
-use Rattle.cut_orders.proofs.Singly.{many-sound}
+use Rattle.cut_orders.proofs.Many.{many-sound}
 use Rattle.cut_orders.proofs.Promises.{orders-then-count}
 
 -- ---- the collector

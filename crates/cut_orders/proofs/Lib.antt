@@ -2,6 +2,8 @@ pub mod Reports
 pub mod Effects
 pub mod Nexts
 pub mod Puts
+pub mod Orders
+pub mod Many
 pub mod Singly
 pub mod CutLaw
 pub mod Promises

@@ -18,9 +18,10 @@ use Rattle.repacketizer_out.proofs.Promises.{packing-can-be-undone}
 use Rattle.cut_orders.specs.declared.Order.{Order}
 use Rattle.cut_orders.specs.Orders.{withLengths, ManyOutcome, outMany}
 use Rattle.cut_orders.specs.Singly.{singly, Consecutive, cutBytes, packetsBy}
-use Rattle.cut_orders.proofs.Singly.{many-unsound, many-tight, many-long, many-crowded, many-none, many-same}
-use Rattle.cut_orders.proofs.Singly.{many-refused-stays, many-no-position, many-position, many-past-stays, many-as-long, many-others-stay}
-use Rattle.cut_orders.proofs.Singly.{many-as-many, many-sums-up}
+use Rattle.cut_orders.proofs.Singly.{many-same}
+use Rattle.cut_orders.proofs.Many.{many-unsound, many-tight, many-long, many-crowded, many-none}
+use Rattle.cut_orders.proofs.Many.{many-refused-stays, many-no-position, many-position, many-past-stays, many-as-long, many-others-stay}
+use Rattle.cut_orders.proofs.Many.{many-as-many, many-sums-up}
 use Rattle.cut_orders.proofs.CutLaw.{cutsOf, cuts-of, room-of, many-exactly, many-again}
 
 -- a call, its answer, and what it leaves

@@ -36,10 +36,10 @@ use Rattle.repacketizer.specs.declared.OpusRepacketizer.{OpusRepacketizer}
 use Rattle.repacketizer.specs.Collector.{held}
 use Rattle.repacketizer_out.specs.Output.{range, outFrames}
 use Rattle.repacketizer_out.proofs.Ranges.{Part}
-use Rattle.repacketizer_out.proofs.Outputs.{output-written}
+use Rattle.repacketizer_out.proofs.Outputs.{output-short, output-fits, output-written}
 use Rattle.repacketizer_out.proofs.Put.{put-block, need-is, put-room, put-plain}
 use Rattle.cut_orders.specs.Orders.{natural}
-use Rattle.cut_orders.proofs.Effects.{effect-none, effect-past, effect-within, output-short, output-fits}
+use Rattle.cut_orders.proofs.Effects.{effect-none, effect-past, effect-within}
 
 -- ---- a header and a block
 module _ (six : ℕ) (ns store : List ℕ) (from : ℕ) (dst : List ℕ) (block : from + total ns ≤ length store) {m : Sums} (measured : m ≡ sumsOf ns)
@@ -97,9 +97,9 @@ module _ (six : ℕ) (frames : List (List ℕ)) (left : ℕ) where
       (ltb-false (length frames) e) in
       let is = effect-within six frames left refl refl some within in
       let room : length c ≤ left =
-      by-test (ltb left (length c)) (λ u. absurd (t BufferTooSmall (is ∙ output-short six (range b e frames) left (ltb-true left (length c) u))))
+      by-test (ltb left (length c)) (λ u. absurd (t BufferTooSmall (is ∙ output-short false false six (range b e frames) left (ltb-true left (length c) u))))
       (ltb-false left (length c)) in
-      record { begins = refl; ends = refl; some = some; within = within; room = room; effect = is ∙ output-fits six (range b e frames) left room }
+      record { begins = refl; ends = refl; some = some; within = within; room = room; effect = is ∙ output-fits false false six (range b e frames) left room }
 
 -- a number that is not negative, passed as its bits and made wider
 abbrev passed : ℤ → ℕ

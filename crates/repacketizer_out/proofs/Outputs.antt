@@ -20,7 +20,7 @@ use mir.ValLaws.{toZ-ofZ}
 use borrow.Author.Tests.{ltb-true, ltb-false, lt-ltb, le-ltb, le-leb, lt-leb}
 use Rattle.laws.proofs.Never.{never, by-test, cond-elim}
 use Rattle.opus_defines.specs.Numbers.{refusalNumber, countOf}
-use Rattle.opus_defines.specs.Outcome.{Outcome, leaves, refuses, writes}
+use Rattle.opus_defines.specs.Outcome.{refusal, written, Outcome, leaves, refuses, writes}
 use Rattle.opus_defines.specs.declared.Refusal.{Refusal}
 use Rattle.opus_defines.specs.declared.Refusal.the-variants.{BadArg, BufferTooSmall, InvalidState}
 use Rattle.opus_defines.specs.declared.Count.the-variants.{Negative}
@@ -137,15 +137,22 @@ sets-whole : (l vs : List ℕ) → length vs ≡ length l → sets l 0 vs ≡ vs
 sets-whole l vs e =
     sym (take-all (length vs) (sets l 0 vs) (omega (arith, length-sets l 0 vs))) ∙ take-sets l vs (omega arith)
 
+module _ (sd pad : Bool) (six : ℕ) (frames : List (List ℕ)) (room : ℕ) where
+  pub output-short : room < length (compact sd six frames) → output sd pad six frames room ≡ refusal BufferTooSmall
+  unfolding output
+  output-short h = rw (lt-ltb room (length (compact sd six frames)) h)
+
+  pub output-fits : length (compact sd six frames) ≤ room → output sd pad six frames room ≡ written (outPacket sd pad six frames room)
+  unfolding output
+  output-fits h = rw (le-ltb room (length (compact sd six frames)) h)
+
 module _ (sd pad : Bool) (six : ℕ) (frames : List (List ℕ)) (dst : List ℕ) where
   pub output-refused : length dst < length (compact sd six frames) → leaves dst (output sd pad six frames (length dst)) ≡ refuses BufferTooSmall dst
-  unfolding output
-  output-refused h = rw (lt-ltb (length dst) (length (compact sd six frames)) h)
+  output-refused h = ap (leaves dst) (output-short sd pad six frames (length dst) h)
 
   pub output-written : length (compact sd six frames) ≤ length dst
       → leaves dst (output sd pad six frames (length dst)) ≡ writes (outPacket sd pad six frames (length dst)) dst
-  unfolding output
-  output-written h = rw (le-ltb (length dst) (length (compact sd six frames)) h)
+  output-written h = ap (leaves dst) (output-fits sd pad six frames (length dst) h)
 
   -- refused for room exactly where the destination is shorter than the compact packet
   pub output-exactly : (leaves dst (output sd pad six frames (length dst)) .report .number ≡ negsuc 1 → length dst < length (compact sd six frames))
