@@ -75,7 +75,8 @@ module _ (six : ℕ) (frames : List (List ℕ)) (room : ℕ) where
   effect-under (pos b) (pos n) e = never (cc)
   effect-under (pos b) (negsuc n) e = refl
 
-  pub effect-none : {begin end : ℤ} {b e : ℕ} → begin ≡ pos b → end ≡ pos e → e ≤ b → outFrames false false six frames begin end room ≡ refusal BadArg
+  pub effect-none : {begin end : ℤ} {b e : ℕ} → begin ≡ pos b → end ≡ pos e → e ≤ b
+      → outFrames false false six frames begin end room ≡ refusal BadArg
   effect-none {b = b} {e = e} p q h = rw (p, q, le-ltb b e h)
 
   pub effect-within : {begin end : ℤ} {b e : ℕ} → begin ≡ pos b → end ≡ pos e → b < e → e ≤ length frames

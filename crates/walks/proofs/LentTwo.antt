@@ -31,7 +31,8 @@ use Rattle.walks.proofs.Lent.{loaned-shr, ended-shr, back-shr}
 
 -- what is kept of a struct whose machine values are us while its fields j and k, which lie c and d bytes on, are out: once field j is back, what is
 -- kept while field k is out
-abbrev pub KeptTwo : {M : Type 1} (𝓤 : URA M) (H : Heap 𝓤) → Width → ℕ → Width → ℕ → Share → Sym → Tys → (j c k d b o : ℕ) → Vals → SProp 𝓤
+abbrev pub KeptTwo : {M : Type 1} (𝓤 : URA M) (H : Heap 𝓤) → Width → ℕ → Width → ℕ → Share → Sym → Tys
+    → (j c k d b o : ℕ) → Vals → SProp 𝓤
 KeptTwo 𝓤 H w n v m q ν τs j c k d b o us = Back 𝓤 H w n q b (o + c) (λ x. Kept 𝓤 H v m q ν τs k d b o (setV us j x))
 
 -- ---- two places out of one
@@ -68,7 +69,8 @@ module _ {M : Type 1} {𝓤 : URA M} {H : Heap 𝓤} {A : Atoms 𝓤} (W : Given
       move ! (1 ∷ 0 ∷ []) $ use2 W (raw (G x′ y′)) (taken Y (G x′) y′) $ use2 W (raw (R x′ y′)) (home x′ y′) $ done !))
 
   -- of a list of fields' places, two are taken out
-  fields-two : (q : Share) (τs : Tys) (e j k : ℕ) → j < k → (σ τ : Ty) (c d : ℕ) → fieldAt e τs j ≡ just (σ, c) → fieldAt e τs k ≡ just (τ, d)
+  fields-two : (q : Share) (τs : Tys) (e j k : ℕ) → j < k → (σ τ : Ty) (c d : ℕ)
+      → fieldAt e τs j ≡ just (σ, c) → fieldAt e τs k ≡ just (τ, d)
       → (b o : ℕ) (vs : Vals) → ent 𝓤 (fieldsAt 𝓤 H q τs e b o vs)
       (Out (getV vs j) (getV vs k) (H .at q σ b (o + c)) (H .at q τ b (o + d)) (λ x y. fieldsAt 𝓤 H q τs e b o (setV (setV vs j x) k y)))
   fields-two q tnil e j k l σ τ c d at at′ b o vs = absurd (Option·none-ne-some {A = Ty × ℕ} (σ, c) at)
@@ -94,7 +96,8 @@ module _ {M : Type 1} {𝓤 : URA M} {H : Heap 𝓤} {A : Atoms 𝓤} (W : Given
       (λ x y. comm∗ 𝓤 (fieldsAt 𝓤 H q τs (a + size ρ) b o (setV (setV vs j x) k y)) P))
 
   pub two-out : (q : Share) (ν : Sym) (τs : Tys) (j k : ℕ) → j < k → (σ τ : Ty) (c d : ℕ)
-      → fieldAt zero τs j ≡ just (σ, c) → fieldAt zero τs k ≡ just (τ, d) → (b o : ℕ) (us : Vals) → ent 𝓤 (H .at q (tyStruct ν τs) b o (vstruct us))
+      → fieldAt zero τs j ≡ just (σ, c) → fieldAt zero τs k ≡ just (τ, d) → (b o : ℕ) (us : Vals)
+      → ent 𝓤 (H .at q (tyStruct ν τs) b o (vstruct us))
       (Out (getV us j) (getV us k) (H .at q σ b (o + c)) (H .at q τ b (o + d)) (λ x y. H .at q (tyStruct ν τs) b o (vstruct (setV (setV us j x) k y))))
   two-out q ν τs j k l σ τ c d at at′ b o us =
       let F = fieldsAt 𝓤 H q τs zero b o in

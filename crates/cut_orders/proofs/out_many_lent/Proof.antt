@@ -243,8 +243,10 @@ module _ {M : Type 1} (𝓤 : URA M) (H : Heap 𝓤) (A : Atoms 𝓤) (W : Given
         -- the locals one by one, from _0 on
         move ! (44 ∷ 78 ∷ 77 ∷ 43 ∷ 75 ∷ 76 ∷ 74 ∷ 55 ∷ 54 ∷ 53 ∷ 52 ∷ 73 ∷ 72 ∷ 71 ∷ 70 ∷ 42 ∷ 41 ∷ 51 ∷ 50 ∷ 49 ∷ 48
         ∷ 47 ∷ 46 ∷ 45 ∷ 69 ∷ 68 ∷ 67 ∷ 66 ∷ 65 ∷ 64 ∷ 63 ∷ 62 ∷ 61 ∷ 60 ∷ []) $
-        freed-at ! 0 33 refl refl $ freed-at ! 0 32 refl refl $ freed-at ! 0 31 refl refl $ freed-at ! 0 30 refl refl $ freed-at ! 0 29 refl refl $ freed-at ! 0 28 refl refl $
-        freed-at ! 0 27 refl refl $ freed-at ! 0 26 refl refl $ freed-at ! 0 25 refl refl $ freed-at ! 0 24 refl refl $ freed-at ! 0 23 refl refl $ freed-at ! 0 22 refl refl $
+        freed-at ! 0 33 refl refl $ freed-at ! 0 32 refl refl $ freed-at ! 0 31 refl refl $ freed-at ! 0 30 refl refl $ freed-at ! 0 29 refl refl $
+        freed-at ! 0 28 refl refl $
+        freed-at ! 0 27 refl refl $ freed-at ! 0 26 refl refl $ freed-at ! 0 25 refl refl $ freed-at ! 0 24 refl refl $ freed-at ! 0 23 refl refl $
+        freed-at ! 0 22 refl refl $
         freed-at ! 0 21 refl refl $ freed-at ! 0 20 refl refl $ freed-room ! 0 19 refl refl $ freed-room ! 0 18 refl refl $ freed-room ! 0 17 refl refl $
         freed-room ! 0 16 refl refl $ freed-room ! 0 15 refl refl $ freed-room ! 0 14 refl refl $ freed-room ! 0 13 refl refl $ freed-room ! 0 12 refl refl $
         freed-room ! 0 11 refl refl $ freed-room ! 0 10 refl refl $ freed-room ! 0 9 refl refl $ freed-room ! 0 8 refl refl $ freed-room ! 0 7 refl refl $
