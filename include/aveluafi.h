@@ -52,6 +52,7 @@ int32_t aveluafi_version(void);
 #define AVELUAFI_INVALID_PACKET (-4)  /* the packet breaks a rule of RFC 6716; its upper six TOC bits are not those held; over 120 ms held */
 #define AVELUAFI_INVALID_STATE (-6)   /* the collector was not made by these calls, or was written over */
 #define AVELUAFI_DIRTY_PADDING (-20)  /* a strict add: a padding byte is not zero */
+#define AVELUAFI_OVER_BUDGET (-21)    /* a share of compaction: the next record alone exceeds the budget */
 
 /* ---- rule and place: which rule of RFC 6716, section 3.4, a packet breaks, and where
  *
@@ -262,6 +263,15 @@ struct aveluafi_record {
  * A capture that is still being written may end within a record, which is then passed over; a mark inside its packet can be taken for a record. So
  * of such a file only what stands behind whole records is final: keep the place behind the last record, and ask again from there when more has come. */
 struct aveluafi_record aveluafi_next_record(const uint8_t *data, size_t data_len, size_t start);
+
+/* ---- a share of compaction (document 02, M-103) */
+
+struct aveluafi_share {
+    int32_t number;
+    size_t resume, records, written, reclaimed, passed;
+};
+
+struct aveluafi_share aveluafi_compact(const uint8_t *data, size_t data_len, size_t start, uint8_t *dst, size_t dst_len, size_t budget);
 
 #ifdef __cplusplus
 }

@@ -21,7 +21,7 @@ use Rattle.laws.proofs.Never.{never, by-test}
 use Rattle.opus_defines.specs.Numbers.{ruleNumber, refusalReport, verdictReport}
 use Rattle.opus_defines.specs.Rules.{ruleRefusal}
 use Rattle.opus_defines.specs.declared.Refusal.{Refusal}
-use Rattle.opus_defines.specs.declared.Refusal.the-variants.{BadArg, BufferTooSmall, InvalidPacket, InvalidState, Unreadable, CutShort, DirtyPadding}
+use Rattle.opus_defines.specs.declared.Refusal.the-variants.{BadArg, BufferTooSmall, InvalidPacket, InvalidState, Unreadable, CutShort, DirtyPadding, OverBudget}
 use Rattle.opus_defines.specs.declared.Report.{Report}
 use Rattle.opus_defines.specs.declared.Rule.{Rule}
 use Rattle.opus_defines.specs.declared.Rule.the-variants.{R1, R2, R3, R4, R5, R6, R7, R8}
@@ -99,6 +99,7 @@ line-most InvalidState h = report-most 5 0 0 (omega arith) (omega arith) (omega 
 line-most (Unreadable rule place) h = report-most 3 (ruleNumber rule) place (omega arith) (rule-few rule) (omega arith)
 line-most (CutShort rule) h = report-most 0 (ruleNumber rule) 0 (omega arith) (rule-few rule) (omega arith)
 line-most DirtyPadding h = report-most 19 0 0 (omega arith) (omega arith) (omega arith)
+line-most OverBudget h = report-most 20 0 0 (omega arith) (omega arith) (omega arith)
 
 -- the reader refuses r, and x is what it says, as it is passed on
 module _ (p : List ℕ) (r : Packet) (e : r ≡ parsed false p) (c : Refusal) (v : r .verdict ≡ Refused c) where

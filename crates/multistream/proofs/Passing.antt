@@ -21,7 +21,7 @@ use Rattle.laws.proofs.Bytes.{bytes-drop}
 use Rattle.laws.proofs.Never.{never}
 use Rattle.opus_defines.specs.Rules.{ruleRefusal, shifted}
 use Rattle.opus_defines.specs.declared.Refusal.{Refusal}
-use Rattle.opus_defines.specs.declared.Refusal.the-variants.{BadArg, BufferTooSmall, InvalidPacket, InvalidState, Unreadable, CutShort, DirtyPadding}
+use Rattle.opus_defines.specs.declared.Refusal.the-variants.{BadArg, BufferTooSmall, InvalidPacket, InvalidState, Unreadable, CutShort, DirtyPadding, OverBudget}
 use Rattle.opus_defines.specs.declared.Verdict.{Verdict}
 use Rattle.opus_defines.specs.declared.Verdict.the-variants.{Accepted}
 use Rattle.opus_defines.specs.declared.Verdict.the-variants as Verdicts
@@ -83,6 +83,7 @@ shifted-none InvalidState = refl
 shifted-none (Unreadable rule place) = let e : 0 + place ≡ place = omega arith in rw e
 shifted-none (CutShort rule) = refl
 shifted-none DirtyPadding = refl
+shifted-none OverBudget = refl
 
 pub shifted-more : (n m : ℕ) (e : Refusal) → shifted n (shifted m e) ≡ shifted (n + m) e
 unfolding ruleRefusal
@@ -93,6 +94,7 @@ shifted-more n m InvalidState = refl
 shifted-more n m (Unreadable rule place) = let e : n + (m + place) ≡ n + m + place = omega arith in rw e
 shifted-more n m (CutShort rule) = refl
 shifted-more n m DirtyPadding = refl
+shifted-more n m OverBudget = refl
 
 further-none : (x : Passed) → further 0 x ≡ x
 further-none (Past at) = let e : 0 + at ≡ at = omega arith in rw e

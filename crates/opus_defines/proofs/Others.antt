@@ -17,7 +17,7 @@ use Rattle.laws.proofs.Never.{never, by-test}
 use Rattle.opus_defines.specs.Numbers.{refusalReport, refusalNumber}
 use Rattle.opus_defines.specs.declared.Rule.{Rule}
 use Rattle.opus_defines.specs.declared.Refusal.{Refusal}
-use Rattle.opus_defines.specs.declared.Refusal.the-variants.{BadArg, BufferTooSmall, InvalidPacket, InvalidState, Unreadable, CutShort, DirtyPadding}
+use Rattle.opus_defines.specs.declared.Refusal.the-variants.{BadArg, BufferTooSmall, InvalidPacket, InvalidState, Unreadable, CutShort, DirtyPadding, OverBudget}
 
 -- a number that is not among the keys of an arm, by computation, is none of them
 pub not-among : (ks : List ℕ) (x : ℕ) → hasKey ks x ≡ false → OneOf ks x → ⊥
@@ -37,6 +37,7 @@ other-plain InvalidState u c = refl
 other-plain (Unreadable rule place) u c = absurd (u rule place refl)
 other-plain (CutShort rule) u c = absurd (c rule refl)
 other-plain DirtyPadding u c = refl
+other-plain OverBudget u c = refl
 
 pub refusal-passed : (e : Refusal) → toZ w32 (ofZ w32 (refusalNumber e)) ≡ refusalNumber e
 refusal-passed BadArg = refl
@@ -46,3 +47,4 @@ refusal-passed InvalidState = refl
 refusal-passed (Unreadable rule place) = refl
 refusal-passed (CutShort rule) = refl
 refusal-passed DirtyPadding = refl
+refusal-passed OverBudget = refl

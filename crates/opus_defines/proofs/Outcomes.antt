@@ -13,7 +13,7 @@ use Rattle.opus_defines.specs.Numbers.{refusalNumber}
 use Rattle.opus_defines.specs.Rules.{ruleRefusal}
 use Rattle.opus_defines.specs.Outcome.{Effect, refusal, wrote, Outcome, leaves}
 use Rattle.opus_defines.specs.declared.Refusal.{Refusal}
-use Rattle.opus_defines.specs.declared.Refusal.the-variants.{BadArg, BufferTooSmall, InvalidPacket, InvalidState, Unreadable, CutShort, DirtyPadding}
+use Rattle.opus_defines.specs.declared.Refusal.the-variants.{BadArg, BufferTooSmall, InvalidPacket, InvalidState, Unreadable, CutShort, DirtyPadding, OverBudget}
 use Rattle.opus_defines.specs.declared.Rule.{Rule}
 use Rattle.opus_defines.specs.declared.Report.{Report}
 
@@ -36,6 +36,7 @@ refusal-negative InvalidState = (5, refl)
 refusal-negative (Unreadable rule place) = (3, refl)
 refusal-negative (CutShort rule) = (0, refl)
 refusal-negative DirtyPadding = (19, refl)
+refusal-negative OverBudget = (20, refl)
 
 pub refusal-not : (e : Refusal) {n : ℕ} → refusalNumber e ≡ pos n → ⊥
 refusal-not e h = let z = refusal-negative e .1 in never (cc)

@@ -4,7 +4,7 @@ use lib.IntN.{ℤ, pos, negsuc}
 use Rattle.opus_defines.specs.declared.Rule.{Rule}
 use Rattle.opus_defines.specs.declared.Rule.the-variants.{R1, R2, R3, R4, R5, R6, R7, R8}
 use Rattle.opus_defines.specs.declared.Refusal.{Refusal}
-use Rattle.opus_defines.specs.declared.Refusal.the-variants.{BadArg, BufferTooSmall, InvalidPacket, InvalidState, Unreadable, CutShort, DirtyPadding}
+use Rattle.opus_defines.specs.declared.Refusal.the-variants.{BadArg, BufferTooSmall, InvalidPacket, InvalidState, Unreadable, CutShort, DirtyPadding, OverBudget}
 use Rattle.opus_defines.specs.declared.Report.{Report}
 use Rattle.opus_defines.specs.declared.Answer.{Answer}
 use Rattle.opus_defines.specs.declared.Answer.the-variants.{Number, Refused}
@@ -28,7 +28,7 @@ ruleNumber R8 = 8
 abbrev pub plain : ℤ → Report
 plain n = record { number = n; rule = 0; place = 0 }
 
--- the one place where a refusal becomes its number, -1, -2, -4, -6 or -20 (document 02, M-105), with the rule and the place
+-- the one place where a refusal becomes its number, -1, -2, -4, -6, -20 (document 02, M-105) or -21 (M-103), with the rule and the place
 abbrev pub refusalReport : Refusal → Report
 refusalReport BadArg = plain (negsuc 0)
 refusalReport BufferTooSmall = plain (negsuc 1)
@@ -37,6 +37,7 @@ refusalReport InvalidState = plain (negsuc 5)
 refusalReport (Unreadable rule place) = record { number = negsuc 3; rule = ruleNumber rule; place = place }
 refusalReport (CutShort rule) = record { number = negsuc 0; rule = ruleNumber rule; place = 0 }
 refusalReport DirtyPadding = plain (negsuc 19)
+refusalReport OverBudget = plain (negsuc 20)
 
 abbrev pub refusalNumber : Refusal → ℤ
 refusalNumber e = refusalReport e .number

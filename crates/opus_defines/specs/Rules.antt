@@ -1,7 +1,7 @@
 -- What a call answers that was given a packet which breaks a rule of RFC 6716, section 3.4: the one place where a rule becomes a refusal.
 use Prim.Native.Nat.{ℕ, _+_}
 use Rattle.opus_defines.specs.declared.Refusal.{Refusal}
-use Rattle.opus_defines.specs.declared.Refusal.the-variants.{BadArg, BufferTooSmall, InvalidPacket, InvalidState, Unreadable, CutShort, DirtyPadding}
+use Rattle.opus_defines.specs.declared.Refusal.the-variants.{BadArg, BufferTooSmall, InvalidPacket, InvalidState, Unreadable, CutShort, DirtyPadding, OverBudget}
 use Rattle.opus_defines.specs.declared.Rule.{Rule}
 
 -- the place is that of the first byte of the field concerned, from the front of the packet
@@ -17,3 +17,4 @@ shifted n InvalidState = InvalidState
 shifted n (Unreadable rule place) = ruleRefusal rule (n + place)
 shifted n (CutShort rule) = CutShort rule
 shifted n DirtyPadding = DirtyPadding
+shifted n OverBudget = OverBudget

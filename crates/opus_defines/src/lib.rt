@@ -22,6 +22,8 @@ pub enum Refusal {
     CutShort(Rule),
     // A padding byte other than zero, which a strict add does not take (document 02, M-105).
     DirtyPadding,
+    // The next record alone takes more bytes than the budget has (document 02, M-103).
+    OverBudget,
 }
 
 // What a call answers to C that reads a packet: a count or the refusal's number, and with an unreadable packet the rule, 1 to 8, and the place.
@@ -65,6 +67,7 @@ pub fn shift(e: Refusal, by: usize) -> Refusal
         Refusal::Unreadable(rule, place) => rule_refusal(rule, wide(place) + by),
         Refusal::CutShort(rule) => Refusal::CutShort(rule),
         Refusal::DirtyPadding => Refusal::DirtyPadding,
+        Refusal::OverBudget => Refusal::OverBudget,
     }
 }
 
@@ -108,6 +111,7 @@ fn plain_number(e: Refusal) -> i32
         Refusal::Unreadable(_, _) => -4,
         Refusal::CutShort(_) => -1,
         Refusal::DirtyPadding => -20,
+        Refusal::OverBudget => -21,
     }
 }
 

@@ -6,7 +6,7 @@ use lib.Dec.{ltb}
 use lib.ListN.{length, drop}
 use Rattle.opus_defines.specs.Bounds.{mostPacket}
 use Rattle.opus_defines.specs.declared.Refusal.{Refusal}
-use Rattle.opus_defines.specs.declared.Refusal.the-variants.{BadArg, BufferTooSmall, InvalidPacket, InvalidState, CutShort, DirtyPadding}
+use Rattle.opus_defines.specs.declared.Refusal.the-variants.{BadArg, BufferTooSmall, InvalidPacket, InvalidState, CutShort, DirtyPadding, OverBudget}
 use Rattle.opus_defines.specs.declared.Refusal.the-variants.{Unreadable as Breaks}
 use Rattle.opus_toc.specs.Toc.{upperSix}
 use Rattle.opus_format.specs.Frames.{cut}
@@ -43,3 +43,4 @@ unread InvalidState = Refused InvalidState
 unread (Breaks rule place) = Unreadable rule place
 unread (CutShort rule) = Refused (CutShort rule)
 unread DirtyPadding = Refused DirtyPadding
+unread OverBudget = Refused OverBudget

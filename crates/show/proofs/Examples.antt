@@ -6,7 +6,7 @@ use mathlib.Core.List.{List, [], _∷_, _++_, map}
 use lib.IntN.{ℤ, pos, negsuc}
 use Rattle.opus_defines.specs.Numbers.{refusalNumber}
 use Rattle.opus_defines.specs.declared.Refusal.{Refusal}
-use Rattle.opus_defines.specs.declared.Refusal.the-variants.{BadArg, BufferTooSmall, InvalidPacket, InvalidState, Unreadable, CutShort, DirtyPadding}
+use Rattle.opus_defines.specs.declared.Refusal.the-variants.{BadArg, BufferTooSmall, InvalidPacket, InvalidState, Unreadable, CutShort, DirtyPadding, OverBudget}
 use Rattle.opus_defines.specs.declared.Rule.the-variants.{R4, R7}
 use Rattle.show.specs.Text.{places, decimal, integer, refusedLabel, refusal}
 
@@ -25,10 +25,10 @@ integers = refl
 abbrev refusedBy : List ℕ → List ℕ
 refusedBy digits = 114 ∷ 101 ∷ 102 ∷ 117 ∷ 115 ∷ 101 ∷ 100 ∷ 32 ∷ 45 ∷ (digits ++ (10 ∷ []))
 
--- -1, -2, -4, -6 and -20; rule and place are not told here
+-- -1, -2, -4, -6, -20 and -21; rule and place are not told here
 pub refusals : map (λ (e : Refusal). refusal (refusalNumber e))
-    (BadArg ∷ BufferTooSmall ∷ InvalidPacket ∷ InvalidState ∷ Unreadable R7 5 ∷ CutShort R4 ∷ DirtyPadding ∷ [])
+    (BadArg ∷ BufferTooSmall ∷ InvalidPacket ∷ InvalidState ∷ Unreadable R7 5 ∷ CutShort R4 ∷ DirtyPadding ∷ OverBudget ∷ [])
     ≡ refusedBy (49 ∷ []) ∷ refusedBy (50 ∷ []) ∷ refusedBy (52 ∷ []) ∷ refusedBy (54 ∷ []) ∷ refusedBy (52 ∷ []) ∷ refusedBy (49 ∷ [])
-    ∷ refusedBy (50 ∷ 48 ∷ []) ∷ []
+    ∷ refusedBy (50 ∷ 48 ∷ []) ∷ refusedBy (50 ∷ 49 ∷ []) ∷ []
 unfolding refusal refusedLabel integer decimal places
 refusals = refl

@@ -10,7 +10,7 @@ use mir.Val.{toZ, ofZ, SFits}
 use mir.ValLaws.{toZ-ofZ}
 use Rattle.opus_defines.specs.Numbers.{refusalNumber}
 use Rattle.opus_defines.specs.declared.Refusal.{Refusal}
-use Rattle.opus_defines.specs.declared.Refusal.the-variants.{BadArg, BufferTooSmall, InvalidPacket, InvalidState, Unreadable, CutShort, DirtyPadding}
+use Rattle.opus_defines.specs.declared.Refusal.the-variants.{BadArg, BufferTooSmall, InvalidPacket, InvalidState, Unreadable, CutShort, DirtyPadding, OverBudget}
 use Rattle.show.specs.Text.{decimal, integer, refusedLabel, refusal}
 use Rattle.show.proofs.Laid.{Three, front-room}
 use Rattle.show.proofs.Digits.{decimal-most}
@@ -35,3 +35,4 @@ refusal-most InvalidState = negative-most 6 (omega arith)
 refusal-most (Unreadable rule place) = negative-most 4 (omega arith)
 refusal-most (CutShort rule) = negative-most 1 (omega arith)
 refusal-most DirtyPadding = negative-most 20 (omega arith)
+refusal-most OverBudget = negative-most 21 (omega arith)

@@ -34,10 +34,12 @@ shift-spec =
     rule-refusal-requires
     (λ c. search needs)
     (λ c. search needs)
+    (λ c. search needs)
     (λ c. rw (c .enum-told .given .1))
     (λ c. rw (c .enum-told2 .given .1))
     (λ c. rw (c .enum-told3 .given .1))
     (λ c. rw (c .enum-told4 .given .1))
     returns-5
     (λ c. rw (c .before .e2 .given .1))
-    (λ c. rw (c .enum-told5 .given .1)))
+    (λ c. rw (c .enum-told5 .given .1))
+    (λ c. rw (c .enum-told6 .given .1)))

@@ -10,7 +10,7 @@ use Rattle.packet_judge.proofs.refused.Tie as tie
 
 returns : tie.Need-returns
 returns c =
-    other-unread (c .before .args .e) (λ rule place q. not-among (0 ∷ 1 ∷ 2 ∷ 3 ∷ 5 ∷ 6 ∷ []) 4 refl (rw q at (c .match .keys2)))
+    other-unread (c .before .args .e) (λ rule place q. not-among (0 ∷ 1 ∷ 2 ∷ 3 ∷ 5 ∷ 6 ∷ 7 ∷ []) 4 refl (rw q at (c .match .keys2)))
 
 returns-2 : tie.Need-returns-2
 returns-2 c = rw (c .before .before .e .given .1, c .wide .ensures .0)

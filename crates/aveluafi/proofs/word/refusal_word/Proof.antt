@@ -1,4 +1,4 @@
--- `aveluafi::word::refusal_word` meets its contract: a refusal's number is -20 or more and below 0, so that its bits, the rule and the place stand apart.
+-- `aveluafi::word::refusal_word` meets its contract: a refusal's number is -21 or more and below 0, so that its bits, the rule and the place stand apart.
 -- Assumes nothing.
 use mathlib.Core.Path.{_≡_, sym, ap, _∙_}
 use Prim.Native.Nat.{ℕ, suc, _<_}
@@ -13,7 +13,7 @@ use Rattle.aveluafi.proofs.word.refusal_word.Statement.{statement}
 use Rattle.aveluafi.proofs.word.refusal_word.Tie as tie
 
 -- how far a report's number is below -1
-below : (e : Refusal) (r : Report) → r ≡ refusalReport e → (k : ℕ) × (k < 20) × (r .number ≡ negsuc k)
+below : (e : Refusal) (r : Report) → r ≡ refusalReport e → (k : ℕ) × (k < 21) × (r .number ≡ negsuc k)
 below e r q = let b = refused-below e in (b .0, b .1, ap (λ (s : Report). s .number) q ∙ b .2)
 
 sub-below : tie.Need-sub-below
