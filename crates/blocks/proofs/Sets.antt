@@ -17,6 +17,10 @@ pub sets-append : (l : List ℕ) (at : ℕ) (us vs : List ℕ) → sets l at (us
 sets-append l at [] vs = rw add-zero
 sets-append l at (u ∷ us) vs = rw (add-suc, ← suc-add, sets-append (set l at u) (suc at) us vs)
 
+-- the same from the front of a buffer, as the code has it
+pub put-behind : (l us vs : List ℕ) {d : List ℕ} {at : ℕ} → d ≡ sets l 0 us → at ≡ length us → sets d at vs ≡ sets l 0 (us ++ vs)
+put-behind l us vs e a = rw (sets-append, zero-add, ← e, ← a)
+
 -- a store before a run may go first
 pub set-sets : (l : List ℕ) (i a at : ℕ) (vs : List ℕ) → i < at → set (sets l at vs) i a ≡ sets (set l i a) at vs
 set-sets l i a at [] h = refl

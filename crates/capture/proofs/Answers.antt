@@ -1,5 +1,5 @@
 -- One answer of `nextRecord` at a place that is not past the end: where it begins and where its record stands.
---     next-begins, next-place-le, next-within     where it begins, and that it ends within the capture
+--     next-line, next-begins, next-place-le, next-within     its line, where it begins, and that it ends within the capture
 --     next-stands, next-nothing, next-end, next-moves     where a record stands and where none does
 --     next-again     the answer at a place between
 --     found, none-behind     the same for any place, as a caller has it: an answer that is a record lies behind the place and within
@@ -11,8 +11,8 @@ use mathlib.Core.Bool.{Bool, true, false}
 use Prim.Native.Nat.{ℕ, zero, suc, _+_, _-_, _<_, _≤_}
 use native.Mathlib.Nat.{eq-or-lt-of-le}
 use native.Mathlib.Omega.{arith}
-use lib.ListN.{length, drop, length-drop}
-use lib.Seq.{drop-length, drop-nil, drop-drop}
+use lib.ListN.{length, getD, drop, length-drop}
+use lib.Seq.{getD-drop, drop-length, drop-nil, drop-drop}
 use lib.Dec.{eqb, ltb}
 use borrow.Author.Tests.{eqb-true, eqb-false, ne-eqb, ltb-true, ltb-false}
 use Rattle.laws.proofs.Never.{by-test}
@@ -91,6 +91,11 @@ module _ (s : List ℕ) (at : ℕ) (inside : at ≤ length s) where
   pub next-stands : nextRecord s at .length ≡ packetLength (drop (nextRecord s at .place) s)
   unfolding recordFrom
   next-stands = rw (next-is s at inside)
+
+  -- the line is the third byte of its head
+  pub next-line : nextRecord s at .line ≡ getD s (nextRecord s at .place + 2) 0
+  unfolding recordFrom
+  next-line = rw (next-is s at inside, getD-drop)
 
   pub next-begins : begins (nextRecord s at) ≡ at
   next-begins = omega (arith, next-place, next-passed)

@@ -1,6 +1,6 @@
 -- Forms: how many bytes a header takes, and the packets as forms.
 --     header-bytes, compact-bytes     what is counted before anything is written
---     sums-few                        how large the sums can be
+--     sums-total, sums-few            what the sum is, and how large the sums can be
 --     form-packet                     the packet that is written for a range is that of the form chosen for it
 -- Assumes nothing.
 use Prim.Native.Nat.{ℕ, zero, suc, _+_, _*_, _-_, _≤_, _<_}
@@ -82,6 +82,11 @@ firsts-most (n ∷ m ∷ ns) = omega (arith, firsts-most (m ∷ ns))
 
 sizes-most : (ns : List ℕ) → length (sizes ns) ≤ 2 * length ns
 sizes-most ns = by-test (same ns) (λ e. rw e (omega arith)) (λ e. rw e (omega (arith, fields-most (firsts ns), firsts-most ns)))
+
+-- the sum that was counted is the frames' together
+pub sums-total : {m : Sums} (ns : List ℕ) → m ≡ sumsOf ns → m .total ≡ total ns
+unfolding sumsOf
+sums-total ns e = ap (λ (x : Sums). x .total) e
 
 -- 48 frames of at most 1275 bytes
 pub total-few : (ns : List ℕ) → length ns ≤ 48 → longest ns ≤ mostBytes → total ns ≤ 61200

@@ -9,3 +9,4 @@ pub mod Rebuilt
 pub mod Filling
 pub mod Forms
 pub mod Standing
+pub mod Plain

@@ -1,4 +1,5 @@
 -- Frames that stand in a buffer, and the packet that is written for them.
+--     compact-parts                       the compact packet is its header and the frames' block
 --     few-missing, compact-needs          the form that is chosen, and the compact packet's bytes
 --     laid, padded-room                   the packet that the form gives, which fits where there is room
 --     compact-laid                        the compact packet, which fits where its header is no longer than what stands in front of the frames
@@ -6,7 +7,7 @@
 use Prim.Native.Nat.{ℕ, _+_, _≤_}
 use native.Mathlib.Omega.{arith}
 use mathlib.Core.Path.{_≡_, refl, sym}
-use mathlib.Core.List.{List}
+use mathlib.Core.List.{List, _++_}
 use mathlib.Core.Bool.{Bool, true, false, cond}
 use lib.Dec.{ltb}
 use lib.ListN.{length, drop, length-drop}
@@ -18,11 +19,11 @@ use Rattle.opus_format.specs.Frames.{lengths, cut, total}
 use Rattle.opus_format.proofs.Frames.{joined-cut, lengths-cut}
 use Rattle.opus_header.specs.Header.{compactHeader}
 use Rattle.opus_header.specs.Compact.{compact, filling}
-use Rattle.opus_header.specs.Sums.{sumsOf}
+use Rattle.opus_header.specs.Sums.{sumsOf, headerOf}
 use Rattle.opus_header.specs.Forms.{compactForm, formFor, compactBytes, missing, formPacket}
 use Rattle.opus_header.specs.declared.Sums.{Sums}
 use Rattle.opus_header.specs.declared.Form.{Form}
-use Rattle.opus_header.proofs.Forms.{compact-missing, compact-bytes, compact-size, packet-formed}
+use Rattle.opus_header.proofs.Forms.{compact-missing, compact-header, compact-bytes, compact-size, packet-formed}
 use Rattle.opus_header.proofs.Filling.{filling-length}
 
 -- a form that fills the room misses no more than the room
@@ -37,6 +38,11 @@ module _ (sd : Bool) (six : ℕ) (ns s : List ℕ) (first : ℕ) (block : first 
 
   lengths-are : lengths frames ≡ ns
   lengths-are = lengths-cut ns (drop first s) (omega (arith, length-drop first s))
+
+  -- the compact packet is its header and the frames' block
+  pub compact-parts : compact sd six frames ≡ headerOf sd six ns (compactForm (length ns)) ++ part s first (total ns)
+  unfolding compact
+  compact-parts = rw (lengths-are, joined-cut ns (drop first s), compact-header sd six ns)
 
   -- `need` is counted from the sums m
   module _ (m : Sums) (e : m ≡ sumsOf ns) (need : ℕ) (n : need ≡ compactBytes (length ns) m sd) where

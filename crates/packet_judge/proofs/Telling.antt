@@ -19,7 +19,7 @@ use Rattle.blocks.proofs.Sets.{drop-take}
 use Rattle.opus_defines.specs.Rules.{ruleRefusal}
 use Rattle.opus_defines.specs.declared.Rule.{Rule}
 use Rattle.opus_defines.specs.declared.Refusal.{Refusal}
-use Rattle.opus_defines.specs.declared.Refusal.the-variants.{BadArg, BufferTooSmall, InvalidPacket, InvalidState, CutShort, DirtyPadding}
+use Rattle.opus_defines.specs.declared.Refusal.the-variants.{BadArg, BufferTooSmall, InvalidPacket, InvalidState, CutShort, DirtyPadding, OverBudget}
 use Rattle.opus_defines.specs.declared.Refusal.the-variants.{Unreadable as Breaks}
 use Rattle.opus_defines.specs.declared.Verdict.the-variants.{Accepted, Refused as Refuses}
 use Rattle.opus_size.specs.Size.{mostBytes}
@@ -39,7 +39,7 @@ use Rattle.opus_header.specs.Sums.{sumsOf}
 use Rattle.opus_header.specs.Forms.{compactBytes}
 use Rattle.opus_header.specs.declared.Sums.{Sums}
 use Rattle.opus_header.proofs.Standing.{compact-needs}
-use Rattle.padding.proofs.Looked.{sum-is}
+use Rattle.opus_header.proofs.Forms.{sums-total}
 use Rattle.packet_judge.specs.Judging.{leastBytes, said, judgeRead, judged, unread}
 use Rattle.packet_judge.specs.declared.Judged.{Judged}
 use Rattle.packet_judge.specs.declared.Judged.the-variants.{Refused, Unreadable}
@@ -53,6 +53,7 @@ other-unread InvalidState u = refl
 other-unread (Breaks rule place) u = absurd (u rule place refl)
 other-unread (CutShort rule) u = refl
 other-unread DirtyPadding u = refl
+other-unread OverBudget u = refl
 
 rule-unread : (rule : Rule) (place : ℕ) → unread (ruleRefusal rule place) ≡ Unreadable rule place
 unfolding ruleRefusal
@@ -97,7 +98,7 @@ module _ (sd : Bool) (p : List ℕ) (h : PacketHead) (l : List ℕ) (e : answerO
 module _ (sd : Bool) (p ns : List ℕ) (first taken : ℕ) (within : (first + total ns ≤ taken) × (taken ≤ length p)) (m : Sums)
     (e : m ≡ sumsOf ns) where
   pub frames-end : first + m .total ≡ first + total ns
-  frames-end = ap (λ (n : ℕ). first + n) (sum-is ns m e)
+  frames-end = ap (λ (n : ℕ). first + n) (sums-total ns e)
 
   padding-is : (toc : ℕ) → paddingOf p (accepted toc ns first taken) ≡ take (taken - (first + m .total)) (drop (first + m .total) p)
   padding-is toc = rw frames-end (drop-take (first + total ns) taken p)

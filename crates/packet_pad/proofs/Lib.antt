@@ -2,6 +2,7 @@ pub mod Given
 pub mod Framed
 pub mod Rewritten
 pub mod Calls
+pub mod Unpadding
 pub mod Spelled
 pub mod Stages
 pub mod Naming

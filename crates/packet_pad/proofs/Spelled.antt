@@ -1,6 +1,6 @@
 -- A packet that RFC 6716 spells, in the first bytes of a buffer: what pad and unpad make of it.
 --     read-whole                      what the ordinary reader accepts is spelled, whole
---     reads-back                      what is spelled reads as its frames and upper six TOC bits
+--     reading, cuts-back, reads-back  what is spelled reads as its frames and upper six TOC bits
 --     filling-of                      the padded packet of its frames is spelled too
 --     pads, unpads                    pad and unpad write those packets,
 --     pad-spelled, unpad-spelled      in the first bytes of a buffer too,
@@ -44,13 +44,13 @@ alone false = refl
 alone true = tt
 
 module _ {sd : Bool} {six : ℕ} {p : List ℕ} {frames : List (List ℕ)} (w : Spells sd six p frames) where
-  reading : read sd p ≡ accepted (getD p 0 0) (lengths frames) (length (w .head)) (length p)
+  pub reading : read sd p ≡ accepted (getD p 0 0) (lengths frames) (length (w .head)) (length p)
   reading = rw (append-nil p) at (spelled-read w [] (alone sd))
 
   pub reads-back : (framesOf p (read sd p) ≡ frames) × (upperSix (getD p 0 0) ≡ six)
   reads-back = (rw (append-nil p) at (spelled-frames w [] (alone sd)), spelled-six w)
 
-  cuts-back : cut (lengths frames) (drop (length (w .head)) p) ≡ frames
+  pub cuts-back : cut (lengths frames) (drop (length (w .head)) p) ≡ frames
   unfolding framesOf
   cuts-back = rw reading at (reads-back .0)
 

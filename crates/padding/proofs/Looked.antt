@@ -3,7 +3,6 @@
 --     Framed, framed                           a packet that was read: its padding lies behind its frames, up to its end
 --     dirt-is                                  dirt by the padding bytes of what was read
 --     dirt-refused                             a packet that cannot be read is not dirty
---     sum-is                                   the sum that was counted is the frames' together
 --     dirt-most                                the largest byte tells whether there is dirt
 --     dirt-told                                what is behind the frames tells whether the packet is dirty
 -- Assumes nothing.
@@ -33,6 +32,7 @@ use Rattle.opus.proofs.Parsed.{lengthsOf, parsed-accepted, parsed-refused}
 use Rattle.opus.proofs.Lent.{packetWith, lent-accepted}
 use Rattle.opus_header.specs.Sums.{sumsOf}
 use Rattle.opus_header.specs.declared.Sums.{Sums}
+use Rattle.opus_header.proofs.Forms.{sums-total}
 
 -- the largest of the first i
 pub record Most (s : List ℕ) (most i : ℕ) : Type 0 where
@@ -78,13 +78,9 @@ module _ (sd : Bool) (p : List ℕ) (h : PacketHead) (l : List ℕ) (e : answerO
   pub dirt-refused : length p ≤ 65535 → {c : Refusal} → h .verdict ≡ Refused c → false ≡ dirtyPacket sd p
   dirt-refused k {c} v = let r = parsed-refused sd p (answerOf h l) e c v k in rw (dirt-is sd p, r .3)
 
-pub sum-is : (ns : List ℕ) (m : Sums) → m ≡ sumsOf ns → m .total ≡ total ns
-unfolding sumsOf
-sum-is ns m e = rw e
-
 pub dirt-most : (s : List ℕ) (most : ℕ) → most ≡ longest s → not (eqb most 0) ≡ dirty s
 dirt-most s most e = rw e (sym (dirty-most s))
 
 pub dirt-told : (sd : Bool) (p : List ℕ) (q : Packet) → Framed sd p q → (m : Sums) → m ≡ sumsOf (lengthsOf q) → (d : Bool)
     → d ≡ dirty (take (q .taken - (q .first + m .total)) (drop (q .first + m .total) p)) → d ≡ dirtyPacket sd p
-dirt-told sd p q f m s d e = rw (f .padding) (rw (sum-is (lengthsOf q) m s) at e)
+dirt-told sd p q f m s d e = rw (f .padding) (rw (sums-total (lengthsOf q) s) at e)

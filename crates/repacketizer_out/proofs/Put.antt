@@ -1,5 +1,5 @@
 -- What is stored for a packet: a header, the frames' block behind it, and zeros where the packet is to fill the destination.
---     sums-total, put-block                            the header and the block
+--     put-block                                        the header and the block
 --     need-is                                          the bytes that the compact packet needs, as the code counts them
 --     put-refused, put-room, put-plain, put-padded     the packet: what the code stores is what the output leaves
 -- Assumes nothing.
@@ -18,27 +18,19 @@ use Rattle.opus_defines.specs.declared.Refusal.the-variants.{BufferTooSmall}
 use Rattle.opus_format.specs.Frames.{lengths, joined, cut, total}
 use Rattle.opus_format.proofs.Frames.{joined-cut, lengths-cut}
 use Rattle.blocks.specs.Blocks.{part, copied, filled}
-use Rattle.blocks.proofs.Sets.{sets-append, length-part}
+use Rattle.blocks.proofs.Sets.{put-behind, length-part}
 use Rattle.opus_header.specs.Header.{compactHeader, padBytes}
 use Rattle.opus_header.specs.Compact.{compact, filling}
 use Rattle.opus_header.specs.Sums.{sumsOf, headerOf}
 use Rattle.opus_header.specs.Forms.{formFor, compactBytes, missing, formPacket}
 use Rattle.opus_header.specs.declared.Sums.{Sums}
 use Rattle.opus_header.specs.declared.Form.{Form}
-use Rattle.opus_header.proofs.Forms.{compact-bytes, compact-size, compact-missing, packet-formed}
+use Rattle.opus_header.proofs.Forms.{sums-total, compact-bytes, compact-size, compact-missing, packet-formed}
 use Rattle.opus_header.proofs.Filling.{filling-length}
 use Rattle.repacketizer_out.specs.Output.{outPacket, output}
 use Rattle.repacketizer_out.proofs.Outputs.{refused-as, output-refused, output-written}
 
--- ---- one behind another
-put-behind : (l us vs : List ℕ) {d : List ℕ} {at : ℕ} → d ≡ sets l 0 us → at ≡ length us → sets d at vs ≡ sets l 0 (us ++ vs)
-put-behind l us vs e a = rw (sets-append, zero-add, ← e, ← a)
-
 -- ---- the header and the block
-pub sums-total : {m : Sums} (ns : List ℕ) → m ≡ sumsOf ns → m .total ≡ total ns
-unfolding sumsOf
-sums-total ns e = ap (λ (x : Sums). x .total) e
-
 pub put-block : (l head store : List ℕ) (from : ℕ) {m : Sums} (ns : List ℕ) → m ≡ sumsOf ns → {d d′ : List ℕ} {at : ℕ} → d ≡ sets l 0 head
     → at ≡ length head → d′ ≡ copied d at store from (m .total)
     → (d′ ≡ sets l 0 (head ++ part store from (total ns))) × (at + m .total ≡ length head + total ns)

@@ -9,7 +9,7 @@ use borrow.Author.Needs.{needs}
 use Rattle.opus_toc.specs.Toc.{upperSix}
 use Rattle.opus_format.specs.Frames.{total}
 use Rattle.opus_header.specs.Sums.{headerOf}
-use Rattle.repacketizer_out.proofs.Put.{sums-total}
+use Rattle.opus_header.proofs.Forms.{sums-total}
 use Rattle.cut_orders.proofs.Puts.{compact-room, put-compact}
 use Rattle.cut_orders.proofs.put_frames.Statement.{statement}
 use Rattle.cut_orders.proofs.put_frames.Tie as tie

@@ -8,7 +8,8 @@ use Rattle.opus_format.specs.Frames.{total}
 use Rattle.opus.specs.declared.Packet.{Packet}
 use Rattle.opus.proofs.Parsed.{lengthsOf}
 use Rattle.opus.proofs.Lent.{packetWith}
-use Rattle.padding.proofs.Looked.{Framed, framed, sum-is, dirt-told, dirt-refused}
+use Rattle.opus_header.proofs.Forms.{sums-total}
+use Rattle.padding.proofs.Looked.{Framed, framed, dirt-told, dirt-refused}
 use Rattle.padding.proofs.read_dirty.Statement.{statement}
 use Rattle.padding.proofs.read_dirty.Tie as tie
 
@@ -52,7 +53,7 @@ abbrev told : tie.After-sums-of → tie.After-enum-told
 told c = c .before .before
 
 summed : (c : tie.After-sums-of) → c .sums-of .result .total ≡ total (lengthsOf (read (told c)))
-summed c = sum-is (lengthsOf (read (told c))) (c .sums-of .result) (c .sums-of .ensures)
+summed c = sums-total (lengthsOf (read (told c))) (c .sums-of .ensures)
 
 add-from : tie.Need-add-from
 add-from c =

@@ -4,7 +4,8 @@ use native.Mathlib.Omega.{arith}
 use borrow.Author.Needs.{needs}
 use Rattle.opus_toc.specs.Toc.{upperSix}
 use Rattle.opus_header.specs.Sums.{headerOf}
-use Rattle.repacketizer_out.proofs.Put.{sums-total, put-block}
+use Rattle.opus_header.proofs.Forms.{sums-total}
+use Rattle.repacketizer_out.proofs.Put.{put-block}
 use Rattle.repacketizer_out.proofs.put_packet.Statement.{statement}
 use Rattle.repacketizer_out.proofs.put_packet.Tie as tie
 
