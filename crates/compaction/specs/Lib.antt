@@ -1,0 +1,5 @@
+pub mod Account
+pub mod Share
+pub mod Nights
+pub mod Lossless
+pub mod Parts
