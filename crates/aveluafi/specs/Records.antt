@@ -11,6 +11,9 @@ use Rattle.aveluafi.specs.declared.reading.AveluafiPacket.{AveluafiPacke
 use Rattle.capture.specs.Finding.{recordNumber}
 use Rattle.capture.specs.declared.NextRecord.{NextRecord}
 use Rattle.aveluafi.specs.declared.captures.AveluafiRecord.{AveluafiRecord}
+use Rattle.compaction.specs.Share.{shareNumber}
+use Rattle.compaction.specs.declared.Share.{Share}
+use Rattle.aveluafi.specs.declared.compacting.AveluafiShare.{AveluafiShare}
 
 -- the number is the bytes of the field, or the refusal's
 abbrev pub sizeRecord : Size → AveluafiSize
@@ -36,3 +39,14 @@ wholeRecord p lengths =
 abbrev pub captureRecord : NextRecord → AveluafiRecord
 captureRecord r =
     record { number = recordNumber r; line = r .line; place = r .place; length = r .length; passed = r .passed }
+
+abbrev pub shareRecord : Share → AveluafiShare
+shareRecord a =
+    record {
+      number = shareNumber a;
+      resume = a .resume;
+      records = a .records;
+      written = a .written;
+      reclaimed = a .reclaimed;
+      passed = a .passed;
+    }

@@ -2,6 +2,7 @@
 // pointer and a count of bytes. The collector is lent to its calls.
 pub mod captures;
 pub mod collector;
+pub mod compacting;
 pub mod in_place;
 pub mod judging;
 pub mod reading;
