@@ -78,6 +78,7 @@ module _ (es : List Entry) (h : HoldAll es) (k : Settled es) where
   file-again room budget fits roomy =
       let s = fileOf es in
       let m : length (output s (recordsIn (readings s 0))) ≤ budget = rw writes-itself fits in
-      let inside : 0 ≤ length s = omega arith in
-      (one-share s 0 room budget inside roomy m (record { records = length es; written = length s; reclaimed = 0; passed = 0 }) counts-itself,
-        λ dst. one-left s 0 room budget inside roomy m dst ∙ ap (sets dst 0) writes-itself)
+      let inside : 0 ≤ length s = omega arith in (
+        one-share s 0 room budget inside roomy m (record { records = length es; written = length s; reclaimed = 0; passed = 0 }) counts-itself,
+        λ dst. one-left s 0 room budget inside roomy m dst ∙ ap (sets dst 0) writes-itself,
+      )

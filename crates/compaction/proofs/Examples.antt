@@ -42,14 +42,14 @@ bytes start room budget = left capture (replicate room 238) (night capture start
 pub accepted : answer 0 99 99 ∷ answer 0 99 8 ∷ answer 0 99 14 ∷ answer 0 99 15 ∷ answer 26 0 0 ∷ []
     ≡ did 26 3 22 1 3 ∷ did 11 1 8 1 2 ∷ did 11 1 8 1 2 ∷ did 18 2 15 1 2 ∷ did 26 0 0 0 0 ∷ []
 unfolding night done stop account written fileOf packetLength packetAt before recordFrom nextRecord recordBytes readingsIn spelling compactOf shorter
-  unpadPacket read duration header compact lengthField
+    unpadPacket read duration header compact lengthField
 accepted = refl
 
 -- the next record alone exceeds the budget, at the front and later; a start past the end, whatever else is wrong; a destination shorter than the budget
 pub refused : answer 0 99 7 ∷ answer 11 99 6 ∷ answer 27 0 5 ∷ answer 0 5 6 ∷ []
     ≡ noShare OverBudget ∷ noShare OverBudget ∷ noShare BadArg ∷ noShare BufferTooSmall ∷ []
 unfolding night done stop packetLength packetAt before recordFrom nextRecord recordBytes readingsIn spelling compactOf shorter unpadPacket read duration
-  header compact lengthField
+    header compact lengthField
 refused = refl
 
 -- the shorter packet, the unreadable one as it was, the compact one; behind them, and beside a refusal, the bytes are as they were
@@ -58,5 +58,5 @@ pub written-bytes : bytes 0 24 24 ∷ bytes 0 10 8 ∷ bytes 0 10 7 ∷ []
     ∷ 0x4b ∷ 0x9d ∷ 0x03 ∷ 0x00 ∷ 0x02 ∷ 0x00 ∷ 0xaa ∷ 238 ∷ 238 ∷ [])
     ∷ (0x4b ∷ 0x9d ∷ 0x01 ∷ 0x00 ∷ 0x03 ∷ 0x01 ∷ 0xaa ∷ 0xbb ∷ 238 ∷ 238 ∷ []) ∷ replicate 10 238 ∷ []
 unfolding night done stop written fileOf packetLength packetAt before recordFrom nextRecord recordBytes readingsIn spelling compactOf shorter unpadPacket
-  read duration header compact lengthField
+    read duration header compact lengthField
 written-bytes = refl

@@ -129,9 +129,10 @@ module _ (s : List ℕ) (start : ℕ) (out : List ℕ) (k : Account) (nights : N
   nights-are-one room budget fits roomy =
       let h = nights-start nights in
       let w = nights-write nights in
-      let m : length (output s (recordsIn (readings s start))) ≤ budget = rw w fits in
-      (one-share s start room budget h roomy m k (nights-account nights),
-        λ dst. one-left s start room budget h roomy m dst ∙ ap (sets dst 0) w)
+      let m : length (output s (recordsIn (readings s start))) ≤ budget = rw w fits in (
+        one-share s start room budget h roomy m k (nights-account nights),
+        λ dst. one-left s start room budget h roomy m dst ∙ ap (sets dst 0) w,
+      )
 
   -- So nothing is lost over all of them: every record of the capture from the start on is among those that are read back.
   pub nights-lose-nothing : Bytes s → (readings out 0 ≡ answersFor 0 (entries out (recordsIn (readings out 0))))

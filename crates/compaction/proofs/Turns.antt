@@ -81,8 +81,11 @@ module _ (s : List ℕ) (start budget : ℕ) (d x : List ℕ) (at records put pa
     pub advanced : (passed + r .passed ≤ length s) × (start + put + (passed + r .passed) ≤ r .place) × (r .place ≤ length s)
     advanced =
         let h = g .inside in
-        rw is (omega (arith, g .spans, next-place s at h, next-passed s at h, next-place-le s at h),
-        omega (arith, g .spans, next-place s at h, next-passed s at h), next-place-le s at h)
+        rw is (
+          omega (arith, g .spans, next-place s at h, next-passed s at h, next-place-le s at h),
+          omega (arith, g .spans, next-place s at h, next-passed s at h),
+          next-place-le s at h,
+        )
 
     pub last-one : r .length ≡ 0 → Stops r x
     last-one = rw is ends

@@ -128,10 +128,11 @@ put-record-requires c κs =
     let k = c .before .before in
     let l = here k .loop in
     let a = entry (here k) .args in
-    let r = k .before .next-record in
-    ((l .inv .room, roomy (here k)),
+    let r = k .before .next-record in (
+      (l .inv .room, roomy (here k)),
       stands-there (a .«data» .now) (a .start) (a .budget) (a .dst .now) (l .dst) (l .at) (l .records) (l .written) (l .passed) (l .inv) (r .result) (r .ensures)
-      (c .before .if2 .left))
+          (c .before .if2 .left),
+    )
 
 -- behind `put_record`
 module _ (c : tie.After-slice-known3 Inv-loop μ-loop) where
