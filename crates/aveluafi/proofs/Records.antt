@@ -7,6 +7,7 @@
 --     one-record, two-record       a packet of one frame or two that was read without an array
 --     long-record, broken-record   a packet that is too long, or breaks a rule
 --     record-found                 a record of a capture
+--     share-made                   a share of compaction
 -- Assumes nothing.
 use Prim.Native.Nat.{ℕ, _-_, _≤_, _<_}
 use native.Mathlib.Omega.{arith}
@@ -45,7 +46,8 @@ use Rattle.opus.proofs.AtShort.{ShortRead}
 use Rattle.opus.proofs.Lent.{lent-accepted}
 use Rattle.opus_format.proofs.Facts.{facts}
 use Rattle.capture.specs.declared.NextRecord.{NextRecord}
-use Rattle.aveluafi.specs.Records.{sizeRecord, packetRecord, wholeRecord, captureRecord}
+use Rattle.compaction.specs.declared.Share.{Share}
+use Rattle.aveluafi.specs.Records.{sizeRecord, packetRecord, wholeRecord, captureRecord, shareRecord}
 
 -- ---- a packet that was read, with its lengths in the array l
 few : (sd : Bool) (p : List ℕ) → Bytes p → parsed sd p .count ≤ 48
@@ -163,3 +165,16 @@ rate-passed s rate f = rw (toZ-ofZ w32 rate f)
 pub record-found : (r : NextRecord) {a : NextRecord} → r ≡ a → {n : ℤ} → n ≡ verdictNumber (pos 0) (r .verdict)
     → record { number = n; line = r .line; place = r .place; length = r .length; passed = r .passed } ≡ captureRecord a
 record-found r e m = rw m (ap captureRecord e)
+
+-- ---- a share of compaction
+pub share-made : (r : Share) {a : Share} → r ≡ a → {n : ℤ} → n ≡ verdictNumber (pos 0) (r .verdict)
+    → record {
+      number = n;
+      resume = r .resume;
+      records = r .records;
+      written = r .written;
+      reclaimed = r .reclaimed;
+      passed = r .passed;
+    }
+    ≡ shareRecord a
+share-made r e m = rw m (ap shareRecord e)
