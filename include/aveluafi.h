@@ -1,4 +1,4 @@
-/* Aveluafi: Opus packets packed into longer ones, cut again, padded and stripped of padding; and found in capture files.
+/* Aveluafi: Opus packets packed into longer ones, cut again, padded and stripped of padding; and found in capture files, which can be compacted.
  *
  * The C interface of the proved archive libaveluafi.a (`./aveluafi build archive`, x86-64 Linux). Names follow unopus 0.0.1 and libopus, under a
  * prefix of their own, so that a program can link libopus too.
@@ -10,7 +10,7 @@
  * What a caller must see to, since C cannot say it:
  *   - a pointer and a count name that many bytes, or cut orders, that can be read, and for a pointer without `const` written; a count of 0 may go with
  *     any pointer, NULL too, as an empty std::vector has it: no byte is touched; a collector pointer is never NULL;
- *   - the memory of two arguments of one call does not overlap (data, store, collector and orders are four different places);
+ *   - the memory of two arguments of one call does not overlap (data, store, collector and orders are four different places, data and dst two);
  *   - no other thread writes to that memory during the call; so a file that is still being written is read into memory first, and a file that is
  *     mapped must not be changed or cut meanwhile;
  *   - a `bool` is 0 or 1, as C's own is;
@@ -48,11 +48,11 @@ int32_t aveluafi_version(void);
 #define AVELUAFI_BAD_ARG (-1)         /* an argument outside its bound; an empty packet for samples, frame count, pad or unpad; a range that is not
                                          0 <= begin < end <= frames held; a packet number not held; a store under 61,200 bytes; over 48 cut orders; a start
                                          past a capture's end */
-#define AVELUAFI_BUFFER_TOO_SMALL (-2) /* the output is longer than the destination */
+#define AVELUAFI_BUFFER_TOO_SMALL (-2) /* the output, or the budget of a share, is longer than the destination */
 #define AVELUAFI_INVALID_PACKET (-4)  /* the packet breaks a rule of RFC 6716; its upper six TOC bits are not those held; over 120 ms held */
 #define AVELUAFI_INVALID_STATE (-6)   /* the collector was not made by these calls, or was written over */
 #define AVELUAFI_DIRTY_PADDING (-20)  /* a strict add: a padding byte is not zero */
-#define AVELUAFI_OVER_BUDGET (-21)    /* a share of compaction: the next record alone exceeds the budget */
+#define AVELUAFI_OVER_BUDGET (-21)    /* a share of compaction: the next record alone, rewritten, is longer than the budget */
 
 /* ---- rule and place: which rule of RFC 6716, section 3.4, a packet breaks, and where
  *
@@ -82,7 +82,7 @@ struct aveluafi_report {
 
 /* ---- bounds */
 
-#define AVELUAFI_MOST_PACKET 65535    /* bytes of a packet, of a destination, of a padded length */
+#define AVELUAFI_MOST_PACKET 65535    /* bytes of a packet, of a destination for packets, of a padded length */
 #define AVELUAFI_MOST_FRAME 1275      /* bytes of a frame */
 #define AVELUAFI_MOST_FRAMES 48       /* frames of a packet or a collector; 120 ms */
 #define AVELUAFI_LEAST_STORE 61200    /* bytes of a collector's store: 48 frames of 1275 */
@@ -264,13 +264,39 @@ struct aveluafi_record {
  * of such a file only what stands behind whole records is final: keep the place behind the last record, and ask again from there when more has come. */
 struct aveluafi_record aveluafi_next_record(const uint8_t *data, size_t data_len, size_t start);
 
-/* ---- a share of compaction (document 02, M-103) */
+/* ---- compaction by shares
+ *
+ * A capture is rewritten record by record, each packet in the shorter of two spellings: its compact form, which is the shortest packet with its frames, or,
+ * where that is no shorter or the packet cannot be read, the bytes that it has. The line stays, and so do the frames and the upper six TOC bits. A call does
+ * a share of it, as many records as a budget of bytes holds, and says where the next one resumes.
+ *
+ * What a caller must see to besides:
+ *   - the capture is a whole file, or a part that ends right behind a record that was read. In a piece that is cut inside a record that record is passed
+ *     over, so it is lost, and a mark inside its packet can be taken for a record. A file that is still being written may be such a piece;
+ *   - dirty padding is stripped quietly, as all padding is: judge the packets first (aveluafi_packet_judge), and ask what the bytes are;
+ *   - bytes that are passed over are in no record, and are not written;
+ *   - the original is kept until what was written is on disk and was read back (docs/RUNBOOK.md, 'Compacting an archive by shares'; examples/compact.c). */
+
+#define AVELUAFI_MOST_RECORD 65540    /* bytes of a record, head and packet: a budget of so many is never too short for one */
 
 struct aveluafi_share {
-    int32_t number;
-    size_t resume, records, written, reclaimed, passed;
+    int32_t number;                   /* 0, or the refusal; beside a refusal every other field is 0 */
+    size_t resume;                    /* where the next call starts: the place of the next record; where no record is left, data_len */
+    size_t records;                   /* the records done */
+    size_t written;                   /* their bytes in dst, at most budget */
+    size_t reclaimed;                 /* by how many bytes they were longer in data */
+    size_t passed;                    /* bytes passed over, from start up to resume */
 };
 
+/* Rewrites the records at or after start into the front of dst, one right behind another, and stops before the first that would make them more than budget
+ * bytes; an exact fit is done. Go on from resume, into any destination and with any budget, until resume is data_len: joined, the calls write what one
+ * call with ample budget writes. resume - start is always written + reclaimed + passed. Where no record is left the call answers, with a budget of 0 too.
+ *
+ * data, dst and budget may have any length. Nothing of dst past the written bytes changes. A packet is rewritten in dst, where it is to stand: the call has
+ * no work room of 65,535 bytes, neither lent nor on its stack, and the stack that it takes does not grow with the capture.
+ *
+ * Order of refusals: -1 where start is past data_len, -2 where dst_len is below budget, -21 exactly if the next record alone, rewritten, is longer than
+ * budget. After -21 call again from the same start with more, AVELUAFI_MOST_RECORD at most; nothing was written, and the same budget is refused again. */
 struct aveluafi_share aveluafi_compact(const uint8_t *data, size_t data_len, size_t start, uint8_t *dst, size_t dst_len, size_t budget);
 
 #ifdef __cplusplus
