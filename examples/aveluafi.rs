@@ -29,6 +29,8 @@ pub enum Refusal {
     InvalidState,
     /// A strict add: a padding byte is not zero.
     DirtyPadding,
+    /// A share of compaction: the next record alone, rewritten, is longer than the budget.
+    OverBudget,
     /// Of many cuts, the one at this position, from 1: it is no range of the frames held.
     BadOrder {
         position: u32,
@@ -50,6 +52,7 @@ impl Refusal {
             Refusal::InvalidPacket | Refusal::Unreadable { .. } => -4,
             Refusal::InvalidState => -6,
             Refusal::DirtyPadding => -20,
+            Refusal::OverBudget => -21,
             Refusal::Unknown(number) => number,
         }
     }
@@ -64,6 +67,7 @@ impl fmt::Display for Refusal {
             Refusal::Unreadable { rule, place } => write!(f, "invalid packet: RFC 6716 rule R{rule} at byte {place}"),
             Refusal::InvalidState => write!(f, "invalid state of the collector"),
             Refusal::DirtyPadding => write!(f, "dirty padding: a padding byte is not zero"),
+            Refusal::OverBudget => write!(f, "over budget: the next record alone is longer than it"),
             Refusal::BadOrder { position } => write!(f, "order {position}: no range of the frames held"),
             Refusal::OrderTooLong { position } => write!(f, "order {position}: destination too small"),
             Refusal::Unknown(number) => write!(f, "refused by {number}, a number of another version"),
@@ -81,6 +85,7 @@ fn answer(number: i32) -> Result<usize, Refusal> {
         -4 => Err(Refusal::InvalidPacket),
         -6 => Err(Refusal::InvalidState),
         -20 => Err(Refusal::DirtyPadding),
+        -21 => Err(Refusal::OverBudget),
         _ => Err(Refusal::Unknown(number)),
     }
 }
@@ -158,6 +163,16 @@ struct RawRecord {
 }
 
 #[repr(C)]
+struct RawShare {
+    number: i32,
+    resume: usize,
+    records: usize,
+    written: usize,
+    reclaimed: usize,
+    passed: usize,
+}
+
+#[repr(C)]
 struct RawVerdict {
     number: i32,
     verdict: u16,
@@ -218,6 +233,7 @@ extern "C" {
     fn aveluafi_packet_pad(data: *mut u8, data_len: usize, len: i32, new_len: i32) -> Report;
     fn aveluafi_packet_unpad(data: *mut u8, data_len: usize, len: i32) -> Report;
     fn aveluafi_next_record(data: *const u8, data_len: usize, start: usize) -> RawRecord;
+    fn aveluafi_compact(data: *const u8, data_len: usize, start: usize, dst: *mut u8, dst_len: usize, budget: usize) -> RawShare;
 }
 
 /// The version of the archive that is linked. Where it is not `VERSION`, nothing that it answers can be relied on.
@@ -363,4 +379,53 @@ pub fn next_record(capture: &[u8], start: usize) -> Result<Next<'_>, Refusal> {
     answer(r.number)?;
     let record = (r.length > 0).then(|| Record { line: r.line, place: r.place, packet: &capture[r.place + RECORD_HEAD..][..r.length] });
     Ok(Next { passed: r.passed, record })
+}
+
+/// The bytes of the longest record, head and packet: a budget of so many is never too short for one.
+pub const MOST_RECORD: usize = 65540;
+
+/// What a share of compaction did. `resume` less the start is `written` and `reclaimed` and `passed` together.
+#[derive(Clone, Copy, Debug, PartialEq, Eq)]
+pub struct Share {
+    /// Where the next one starts: the place of the next record, or the end where none is left.
+    pub resume: usize,
+    pub records: usize,
+    /// Their bytes as they were written.
+    pub written: usize,
+    /// By how many bytes they were longer.
+    pub reclaimed: usize,
+    /// Bytes in no record, which are not written.
+    pub passed: usize,
+}
+
+/// Rewrites the records of a capture at or after `start` into the front of `dst`, each packet in its shortest form, as many as `budget` bytes hold. Hand it
+/// a whole file, or a part that ends right behind a record that was read. Dirty padding is stripped quietly: judge first.
+pub fn compact(capture: &[u8], start: usize, dst: &mut [u8], budget: usize) -> Result<Share, Refusal> {
+    let r = unsafe { aveluafi_compact(capture.as_ptr(), capture.len(), start, dst.as_mut_ptr(), dst.len(), budget) };
+    let share = Share { resume: r.resume, records: r.records, written: r.written, reclaimed: r.reclaimed, passed: r.passed };
+    answer(r.number).map(|_| share)
+}
+
+/// The shares of a capture from `start` on, one after another, each with a budget of the whole buffer, in which it is written.
+pub fn shares<'a>(capture: &'a [u8], start: usize, buffer: &'a mut [u8]) -> Shares<'a> {
+    Shares { capture, at: Some(start), buffer }
+}
+
+/// Goes from share to share, `while let Some(night) = shares.next_share()`. It is no `Iterator`: the bytes of a share stand in the buffer until the next.
+pub struct Shares<'a> {
+    capture: &'a [u8],
+    // None behind a refusal.
+    at: Option<usize>,
+    buffer: &'a mut [u8],
+}
+
+impl Shares<'_> {
+    /// The next share and the bytes that it wrote. None at the capture's end, and behind a refusal, which comes once.
+    pub fn next_share(&mut self) -> Option<Result<(Share, &[u8]), Refusal>> {
+        let start = self.at.filter(|at| *at != self.capture.len())?;
+        let budget = self.buffer.len();
+        let night = compact(self.capture, start, self.buffer, budget);
+        self.at = night.ok().map(|share| share.resume);
+        Some(night.map(|share| (share, &self.buffer[..share.written])))
+    }
 }
