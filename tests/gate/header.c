@@ -296,6 +296,96 @@ static void captures(void) {
     is("record refused is zeros", r.line == 0 && r.place == 0 && r.length == 0 && r.passed == 0, 1);
 }
 
+/* ---- compaction by shares */
+
+/* Three records: two frames as code 3, which are a byte shorter as code 1; a packet that cannot be read; a compact one. Behind the first stand two bytes that
+ * could begin a mark, behind the last a zero. */
+static const uint8_t capture[26] = {0x4B, 0x9D, 1, 0, 4, 3, 2, 0xAA, 0xBB, 0x4B, 0x4B, 0x4B, 0x9D, 2, 0, 2, 3, 0, 0x4B, 0x9D, 3, 0, 2, 0, 0xAA, 0};
+static const uint8_t compacted[22] = {0x4B, 0x9D, 1, 0, 3, 1, 0xAA, 0xBB, 0x4B, 0x9D, 2, 0, 2, 3, 0, 0x4B, 0x9D, 3, 0, 2, 0, 0xAA};
+static uint8_t dst[AVELUAFI_MOST_RECORD + 60], longest[AVELUAFI_MOST_RECORD + 26];
+
+/* Whether dst has these bytes in front, and behind them what it had. */
+static int holds(const uint8_t *bytes, size_t n) {
+    for (size_t i = 0; i < sizeof dst; i++)
+        if (dst[i] != (i < n ? bytes[i] : UNSET))
+            return 0;
+    return 1;
+}
+
+static struct aveluafi_share shared(const uint8_t *data, size_t n, size_t start, size_t room, size_t budget) {
+    for (size_t i = 0; i < sizeof dst; i++)
+        dst[i] = UNSET;
+    return aveluafi_compact(data, n, start, dst, room, budget);
+}
+
+static void tells(const char *what, struct aveluafi_share s, long resume, long records, long written, long reclaimed, long passed) {
+    field(what, ".number", s.number, AVELUAFI_OK);
+    field(what, ".resume", (long)s.resume, resume);
+    field(what, ".records", (long)s.records, records);
+    field(what, ".written", (long)s.written, written);
+    field(what, ".reclaimed", (long)s.reclaimed, reclaimed);
+    field(what, ".passed", (long)s.passed, passed);
+}
+
+/* A refusal is zeros, and leaves the destination. */
+static void refuses(const char *what, struct aveluafi_share s, long number) {
+    field(what, ".number", s.number, number);
+    field(what, " is zeros", s.resume == 0 && s.records == 0 && s.written == 0 && s.reclaimed == 0 && s.passed == 0, 1);
+    field(what, " leaves the destination", holds(NULL, 0), 1);
+}
+
+static void compacting(void) {
+    is("share size", sizeof(struct aveluafi_share), 48);
+    is("share.number at", offsetof(struct aveluafi_share, number), 0);
+    is("share.resume at", offsetof(struct aveluafi_share, resume), 8);
+    is("share.records at", offsetof(struct aveluafi_share, records), 16);
+    is("share.written at", offsetof(struct aveluafi_share, written), 24);
+    is("share.reclaimed at", offsetof(struct aveluafi_share, reclaimed), 32);
+    is("share.passed at", offsetof(struct aveluafi_share, passed), 40);
+
+    tells("compact budget 99", shared(capture, 26, 0, 99, 99), 26, 3, 22, 1, 3);
+    is("compact budget 99 bytes", holds(compacted, 22), 1);
+    tells("compact budget 22", shared(capture, 26, 0, 22, 22), 26, 3, 22, 1, 3);
+    is("compact budget 22 bytes", holds(compacted, 22), 1);
+    tells("compact budget 8", shared(capture, 26, 0, 8, 8), 11, 1, 8, 1, 2);
+    is("compact budget 8 bytes", holds(compacted, 8), 1);
+    tells("compact budget 14", shared(capture, 26, 0, 14, 14), 11, 1, 8, 1, 2);
+    is("compact budget 14 bytes", holds(compacted, 8), 1);
+    refuses("compact budget 7", shared(capture, 26, 0, 7, 7), AVELUAFI_OVER_BUDGET);
+    refuses("compact budget 7, a longer destination", shared(capture, 26, 0, 99, 7), AVELUAFI_OVER_BUDGET);
+    tells("compact budget 15", shared(capture, 26, 0, 15, 15), 18, 2, 15, 1, 2);
+    is("compact budget 15 bytes", holds(compacted, 15), 1);
+    tells("compact budget 15, a longer destination", shared(capture, 26, 0, 99, 15), 18, 2, 15, 1, 2);
+    is("compact budget 15, a longer destination bytes", holds(compacted, 15), 1);
+    refuses("compact start 11 budget 6", shared(capture, 26, 11, 6, 6), AVELUAFI_OVER_BUDGET);
+    /* resumed behind budget 8: the rest of the same bytes */
+    tells("compact start 11 budget 8", shared(capture, 26, 11, 8, 8), 18, 1, 7, 0, 0);
+    is("compact start 11 budget 8 bytes", holds(compacted + 8, 7), 1);
+    tells("compact start 18 budget 8", shared(capture, 26, 18, 8, 8), 26, 1, 7, 0, 1);
+    is("compact start 18 budget 8 bytes", holds(compacted + 15, 7), 1);
+    tells("compact start 25 budget 0", shared(capture, 26, 25, 0, 0), 26, 0, 0, 0, 1);
+    is("compact start 25 budget 0 bytes", holds(NULL, 0), 1);
+    tells("compact start 26 budget 0", shared(capture, 26, 26, 0, 0), 26, 0, 0, 0, 0);
+    is("compact start 26 budget 0 bytes", holds(NULL, 0), 1);
+    refuses("compact start 0 budget 0", shared(capture, 26, 0, 0, 0), AVELUAFI_OVER_BUDGET);
+    /* one thing wrong after another, each before those that follow */
+    refuses("compact start 27, destination 0, budget 5", shared(capture, 26, 27, 0, 5), AVELUAFI_BAD_ARG);
+    refuses("compact destination 5, budget 6", shared(capture, 26, 0, 5, 6), AVELUAFI_BUFFER_TOO_SMALL);
+    refuses("compact start 26, destination 5, budget 6", shared(capture, 26, 26, 5, 6), AVELUAFI_BUFFER_TOO_SMALL);
+
+    /* the longest record, of a packet that cannot be read, and the three behind it: a capture, a destination and counts above 65,535 */
+    longest[0] = 0x4B, longest[1] = 0x9D, longest[2] = 9, longest[3] = 0xFF, longest[4] = 0xFF;
+    for (size_t i = 0; i < sizeof capture; i++)
+        longest[AVELUAFI_MOST_RECORD + i] = capture[i];
+    refuses("compact the longest record, a byte too few", shared(longest, sizeof longest, 0, sizeof dst, AVELUAFI_MOST_RECORD - 1), AVELUAFI_OVER_BUDGET);
+    tells("compact the longest record", shared(longest, sizeof longest, 0, AVELUAFI_MOST_RECORD, AVELUAFI_MOST_RECORD), 65540, 1, 65540, 0, 0);
+    is("compact the longest record bytes", holds(longest, AVELUAFI_MOST_RECORD), 1);
+    tells("compact all behind it", shared(longest, sizeof longest, 0, sizeof dst, sizeof dst), 65566, 4, 65562, 1, 3);
+    for (size_t i = 0; i < sizeof compacted; i++)
+        longest[AVELUAFI_MOST_RECORD + i] = compacted[i];
+    is("compact all behind it bytes", holds(longest, 65562), 1);
+}
+
 /* An empty std::vector may have no address: NULL with a count of 0 is an empty slice, for every call that takes one. */
 static void nothing(void) {
     struct aveluafi_repacketizer rp;
@@ -333,6 +423,13 @@ static void nothing(void) {
     is("NULL multistream_packet_unpad", aveluafi_multistream_packet_unpad(NULL, 0, 1, 1).number, AVELUAFI_BAD_ARG);
     struct aveluafi_record r = aveluafi_next_record(NULL, 0, 0);
     is("NULL next_record", r.number == 0 && r.place == 0 && r.length == 0 && r.passed == 0, 1);
+    tells("NULL compact both", aveluafi_compact(NULL, 0, 0, NULL, 0, 0), 0, 0, 0, 0, 0);
+    is("NULL compact both, start 1", aveluafi_compact(NULL, 0, 1, NULL, 0, 0).number, AVELUAFI_BAD_ARG);
+    is("NULL compact both, budget 1", aveluafi_compact(NULL, 0, 0, NULL, 0, 1).number, AVELUAFI_BUFFER_TOO_SMALL);
+    tells("NULL compact capture", shared(NULL, 0, 0, 5, 5), 0, 0, 0, 0, 0);
+    is("NULL compact capture bytes", holds(NULL, 0), 1);
+    is("NULL compact destination", aveluafi_compact(capture, sizeof capture, 0, NULL, 0, 0).number, AVELUAFI_OVER_BUDGET);
+    tells("NULL compact destination at the end", aveluafi_compact(capture, sizeof capture, 26, NULL, 0, 0), 26, 0, 0, 0, 0);
 }
 
 int main(void) {
@@ -345,6 +442,7 @@ int main(void) {
     in_place();
     judging();
     captures();
+    compacting();
     nothing();
     is("the last", failures, 0);
     return failures > 0;
