@@ -273,6 +273,7 @@ struct aveluafi_record aveluafi_next_record(const uint8_t *data, size_t data_len
  * What a caller must see to besides:
  *   - the capture is a whole file, or a part that ends right behind a record that was read. In a piece that is cut inside a record that record is passed
  *     over, so it is lost, and a mark inside its packet can be taken for a record. A file that is still being written may be such a piece;
+ *   - data and dst do not overlap: a capture is not compacted where it stands;
  *   - dirty padding is stripped quietly, as all padding is: judge the packets first (aveluafi_packet_judge), and ask what the bytes are;
  *   - bytes that are passed over are in no record, and are not written;
  *   - the original is kept until what was written is on disk and was read back (docs/RUNBOOK.md, 'Compacting an archive by shares'; examples/compact.c). */
