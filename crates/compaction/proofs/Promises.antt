@@ -10,7 +10,7 @@ use Rattle.laws.specs.Bytes.{Bytes}
 use Rattle.blocks.proofs.Sets.{take-sets, drop-sets-past}
 use Rattle.opus_defines.specs.declared.Refusal.{Refusal}
 use Rattle.opus_defines.specs.declared.Refusal.the-variants.{BadArg, BufferTooSmall, OverBudget}
-use Rattle.opus_defines.specs.declared.Verdict.the-variants.{Accepted}
+use Rattle.opus_defines.specs.declared.Verdict.the-variants.{Accepted, Refused}
 use Rattle.capture.specs.Records.{HoldAll}
 use Rattle.capture.specs.Finding.{nextRecord}
 use Rattle.capture.specs.Reading.{readings, answersFor}
@@ -109,8 +109,10 @@ module _ (s : List ℕ) (start room budget : ℕ) where
           (k .0 ∙ rw count, k .1)
 
   -- 7. A refusal changes nothing, and beside it stand zeros.
-  pub refused-changes-nothing : (e : Refusal) → night s start room budget ≡ refuses e → (dst : List ℕ) → left s dst (night s start room budget) ≡ dst
-  refused-changes-nothing e q dst = rw q
+  pub refused-changes-nothing : (e : Refusal) → night s start room budget ≡ refuses e
+      → (share s (night s start room budget) ≡ record { verdict = Refused e; resume = 0; records = 0; written = 0; reclaimed = 0; passed = 0 })
+      × ((dst : List ℕ) → left s dst (night s start room budget) ≡ dst)
+  refused-changes-nothing e q = rw q (refl, λ dst. refl)
 
 -- 8. Calls resumed until the end, none of them refused, write, joined, what one call with ample budget writes, and their accounts together are its account.
 -- Each has a budget and a destination of its own.

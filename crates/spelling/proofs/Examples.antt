@@ -10,7 +10,7 @@ use Rattle.opus_format.specs.Reading.{read}
 use Rattle.opus_header.specs.Header.{header}
 use Rattle.opus_header.specs.Compact.{compact}
 use Rattle.packet_pad.specs.Unpad.{unpadPacket}
-use Rattle.spelling.specs.Spelling.{spelling, compactOf, shorter}
+use Rattle.spelling.specs.Spelling.{spelling, compactOf, shorter, workAfter}
 use Rattle.spelling.specs.declared.Spelling.the-variants.{Original, Compact}
 
 -- two frames as code 3, with room for the three bytes of their compact packet, and with a byte less
@@ -20,6 +20,14 @@ two = 0x03 ∷ 0x02 ∷ 0xaa ∷ 0xbb ∷ []
 pub by-room : (map (shorter two) (3 ∷ 2 ∷ []) ≡ (0x01 ∷ 0xaa ∷ 0xbb ∷ []) ∷ two ∷ []) × (map (spelling two) (3 ∷ 2 ∷ []) ≡ Compact 3 ∷ Original ∷ [])
 unfolding shorter spelling compactOf unpadPacket read duration compact header lengthField
 by-room = (refl, refl)
+
+-- what is left of four bytes of 238, and of two
+abbrev left : ℕ → List ℕ
+left room = workAfter (compactOf two) (replicate room 238) (spelling two room)
+
+pub work-buffers : map left (4 ∷ 2 ∷ []) ≡ (0x01 ∷ 0xaa ∷ 0xbb ∷ 238 ∷ []) ∷ (238 ∷ 238 ∷ []) ∷ []
+unfolding spelling compactOf unpadPacket read duration compact header lengthField
+work-buffers = refl
 
 -- two equal frames as code 2; one frame with a padding byte, which is not zero; three equal frames with a length each
 pub shortened : map (λ (p : List ℕ). shorter p 9)

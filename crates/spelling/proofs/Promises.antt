@@ -6,6 +6,7 @@ use mathlib.Core.List.{List}
 use mathlib.Core.Bool.{false}
 use mathlib.Core.Logic.{_⊎_}
 use lib.ListN.{length, getD, drop}
+use lib.Seq.{sets}
 use Rattle.laws.specs.Bytes.{Bytes}
 use Rattle.opus_defines.specs.Bounds.{mostPacket}
 use Rattle.opus_defines.specs.declared.Rule.{Rule}
@@ -17,10 +18,10 @@ use Rattle.opus_header.specs.Compact.{compact}
 use Rattle.packet_judge.specs.Judging.{judged}
 use Rattle.packet_judge.specs.declared.Judged.the-variants.{Unreadable, Dirty, Longer, Clean}
 use Rattle.packet_judge.proofs.Verdicts.{unreadable-only}
-use Rattle.spelling.specs.Spelling.{spelling, shorter}
+use Rattle.spelling.specs.Spelling.{spelling, compactOf, shorter, workAfter}
 use Rattle.spelling.specs.declared.Spelling.the-variants.{Original, Compact}
 use Rattle.spelling.proofs.Choice.{long-original, handed-original}
-use Rattle.spelling.proofs.Laws.{again}
+use Rattle.spelling.proofs.Laws.{compact-is, again}
 use Rattle.spelling.proofs.Handed.{takes, leaves-it, spells, frames-stay, least}
 use Rattle.spelling.proofs.Verdicts.{unread-stays, clean-stays, longer-least, dirty-shorter}
 
@@ -80,3 +81,11 @@ module _ (p : List ℕ) (bytes : Bytes p) (short : length p ≤ 65535) where
 -- 6. A second time changes nothing.
 pub once-is-enough : (p : List ℕ) (room : ℕ) → Bytes p → shorter (shorter p room) room ≡ shorter p room
 once-is-enough = again
+
+-- 7. The work buffer is as it was where the packet is handed back; otherwise what is handed back stands at its front, and the bytes behind that are as they
+-- were.
+pub work-is-left : (p w : List ℕ) → let c = spelling p (length w) in
+    (c ≡ Original → workAfter (compactOf p) w c ≡ w)
+    × ((n : ℕ) → c ≡ Compact n → (length (shorter p (length w)) ≡ n) × (workAfter (compactOf p) w c ≡ sets w 0 (shorter p (length w))))
+work-is-left p w =
+    (λ e. rw e, λ n e. let k = compact-is p (length w) n e in (rw (k .0) (k .1), rw (e, k .0)))
