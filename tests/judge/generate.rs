@@ -18,11 +18,11 @@ impl Random {
     pub fn one_in(&mut self, n: usize) -> bool {
         self.below(n) == 0
     }
-    fn of<T: Copy>(&mut self, choices: &[T]) -> T {
+    pub fn of<T: Copy>(&mut self, choices: &[T]) -> T {
         choices[self.below(choices.len())]
     }
     /// A byte that is likely to say something in a header.
-    fn byte(&mut self) -> u8 {
+    pub fn byte(&mut self) -> u8 {
         match self.below(6) {
             0 => self.below(8) as u8,
             1 => self.of(&[0x40, 0x80, 0xc0]) + self.below(6) as u8,
@@ -31,7 +31,7 @@ impl Random {
             _ => self.below(256) as u8,
         }
     }
-    fn bytes(&mut self, n: usize) -> Vec<u8> {
+    pub fn bytes(&mut self, n: usize) -> Vec<u8> {
         (0..n).map(|_| self.byte()).collect()
     }
     /// The length of a frame: most are short, some stand at the edge of a field or of what a frame may have.
