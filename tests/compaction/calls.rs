@@ -170,14 +170,15 @@ fn resumed(c: &mut Count, r: &mut Random, capture: &[u8], start: usize) {
     let mut sum = Share { resume: start, ..Share::default() };
     let mut joined: Vec<u8> = Vec::new();
     let mut budget = r.below(most);
-    let mut turns = 0;
-    while sum.resume < capture.len() && turns < 100000 {
+    while sum.resume < capture.len() {
         let (one, dst) = called(capture, sum.resume, budget, budget, 0);
-        turns += 1;
         c.resumed += 1;
-        if one.number == -21 {
-            budget = (budget * 2 + 1).min(70000);
+        if one.number == -21 && budget < 70000 {
+            budget = budget * 2 + 1;
             continue;
+        }
+        if one.number != 0 || one.resume <= sum.resume {
+            break;
         }
         joined.extend(front(&dst, one.written));
         sum = Share {
