@@ -633,6 +633,31 @@ static void stack_of(const char *key) {
     if (used > most[s.kind]) most[s.kind] = used;
 }
 
+/* The same of a share of compaction, over the packets of all sets as the records of one capture. */
+
+static uint8_t capture[1 << 20], compacted[sizeof capture];
+static size_t captured;
+
+static void as_record(const char *key) {
+    struct set s;
+    of(key, &s);
+    size_t len = (size_t)s.len[0];
+    if (len == 0 || sizeof capture - captured < AVELUAFI_RECORD_HEAD + len) return;
+    const uint8_t head[AVELUAFI_RECORD_HEAD] = {0x4B, 0x9D, 1, (uint8_t)(len >> 8), (uint8_t)len};
+    memcpy(capture + captured, head, sizeof head);
+    memcpy(capture + captured + sizeof head, s.packet[0], len);
+    captured += sizeof head + len;
+}
+
+static int stack_of_compaction(void) {
+    each_key(as_record, false);
+    each_key(as_record, true);
+    paint();
+    struct aveluafi_share share = aveluafi_compact(capture, captured, 0, compacted, sizeof compacted, captured);
+    int used = deepest();
+    return share.number == 0 ? used : -1;
+}
+
 int main(int n, char **word) {
     if (crate_repacketizer_get_size() > (int)sizeof crate_rp || opus_repacketizer_get_size() > (int)sizeof libopus_rp) {
         fprintf(stderr, "bench: a collector is larger than its place here\n");
@@ -653,6 +678,7 @@ int main(int n, char **word) {
         each_key(stack_of, false);
         each_key(stack_of, true);
         for (int i = 0; i <= STREAMS_PAD; i++) printf("%s\t%d\n", calls[i].name, most[i]);
+        printf("share of compaction\t%d\n", stack_of_compaction());
         return 0;
     }
     if (n == 4 && !strcmp(word[1], "time")) {
