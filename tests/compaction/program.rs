@@ -2,6 +2,7 @@
 //!
 //!   program shares COUNT SEED WORK COMMAND..      kind 25: generated captures with starts, budgets and rooms, many to a run
 //!   program choices COUNT SEED WORK COMMAND..     kind 26: generated packets with work rooms, many to a run
+//!   program malformed WORK COMMAND..              cases of both kinds that are malformed or cut short
 //!   program edges                                 the request's own cases, and the shorter spelling, by the independent compactor alone
 //!
 //! WORK is a folder for what the command gets as its standard input.
@@ -177,6 +178,53 @@ fn cases(what: &str, make: fn(&mut Random) -> Case, names: [&str; 5], count: usi
     differ
 }
 
+/// Cases that are malformed by their numbers or cut short: behind the line of a case that is not, each prints that word and ends the program.
+fn malformed(work: &str, command: &[String]) -> usize {
+    let case = |kind: u8, numbers: &[i32], bytes: &[u8]| {
+        let mut input = vec![kind];
+        numbers.iter().for_each(|n| input.extend(n.to_le_bytes()));
+        input.extend(bytes);
+        input
+    };
+    let good = case(26, &[3, 4], &[3, 2, 0xaa, 0xbb]);
+    let mut bad = vec![
+        case(25, &[0, 0, 0, 2], &[0]),
+        case(25, &[0, 0, 0], &[]),
+        case(25, &[0, 0], &[]),
+        case(25, &[0], &[]),
+        case(25, &[], &[]),
+        case(26, &[0, 2], &[0]),
+        case(26, &[0], &[]),
+        case(26, &[], &[]),
+    ];
+    // what stands behind one that is malformed by a number is not answered
+    let numbers = [
+        case(25, &[-1, 0, 0, 0], &[]),
+        case(25, &[i32::MIN, 0, 0, 0], &[]),
+        case(25, &[0, -1, 0, 0], &[]),
+        case(25, &[0, i32::MIN, 0, 0], &[]),
+        case(25, &[0, 0, -1, 0], &[]),
+        case(25, &[0, 0, 65537, 0], &[]),
+        case(25, &[0, 0, 0, -1], &[]),
+        case(25, &[0, 0, 0, 65537], &[0; 65537]),
+        case(26, &[-1, 0], &[]),
+        case(26, &[65537, 0], &[]),
+        case(26, &[0, -1], &[]),
+        case(26, &[0, 65537], &[0; 65537]),
+    ];
+    bad.extend(numbers.map(|one| [one, good.clone()].concat()));
+    let mut differ = 0;
+    for one in &bad {
+        let got = printed(command, &format!("{work}/malformed.bin"), &[&good[..], one].concat());
+        if got != "1 01aabb 01aabb\nmalformed\n" {
+            differ += 1;
+            println!("{} printed:\n{got}", hex(&one[..one.len().min(40)]));
+        }
+    }
+    println!("{} malformed cases, {differ} differ", bad.len());
+    differ
+}
+
 /// The cases of the request: start, destination, budget, and number, resume place, records, bytes written, reclaimed and passed over.
 fn edges() {
     let capture = unhex("4b9d 01 0004 0302aabb 4b4b 4b9d 02 0002 0300 4b9d 03 0002 00aa 00");
@@ -214,6 +262,7 @@ fn main() {
     let differ = match words[0].as_str() {
         "shares" => cases("shares", share_case, SHARES, number(1) as usize, number(2), &words[3], &words[4..]),
         "choices" => cases("choices", choice_case, CHOICES, number(1) as usize, number(2), &words[3], &words[4..]),
+        "malformed" => malformed(&words[1], &words[2..]),
         _ => {
             edges();
             0

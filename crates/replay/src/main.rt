@@ -3,6 +3,8 @@
 // case that turns out to be cut short can take back what it has put there.
 use replay_collector::collect_case;
 use replay_collector::places_case;
+use replay_compaction::choice_case;
+use replay_compaction::share_case;
 use replay_in_place::in_place_case;
 use replay_io::input::ByteAt;
 use replay_io::input::Cursor;
@@ -19,7 +21,7 @@ use replay_numbers::range_case;
 use replay_orders::orders_case;
 use replay_reading::reading_case;
 
-// Which crate answers a kind. Only the collector needs the store.
+// Which crate answers a kind. Only the collector and compaction need the store.
 fn case(
     input: &mut [u8],
     c: Cursor,
@@ -38,6 +40,8 @@ fn case(
         21 => orders_case(input, c, work, store, out, at),
         3..=6 | 13..=16 => in_place_case(input, c, work, out, at, kind),
         24 => judge_case(input, c, work, out, at),
+        25 => share_case(input, c, work, store, out, at),
+        26 => choice_case(input, c, work, store, out, at),
         _ => reading_case(input, c, work, out, at, kind),
     }
 }
