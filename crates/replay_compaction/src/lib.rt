@@ -70,6 +70,21 @@ fn shared(
     told(out, at, s)
 }
 
+fn share_line(
+    out: &mut [u8],
+    at: usize,
+    work: &[u8],
+    n: usize,
+    store: &mut [u8],
+    asked: Asked,
+) -> usize {
+    let room = asked.room;
+    unset(store, room);
+    let a = shared(out, at, work, n, store, asked);
+    let b = put(out, a, b' ');
+    buffer(out, b, store, room)
+}
+
 // The case behind its first two numbers.
 fn share_behind(
     input: &mut [u8],
@@ -87,21 +102,12 @@ fn share_behind(
     let NumberAt::Is(n, e) = bytes(input, d, work) else {
         return Line::Malformed;
     };
-    unset(store, room);
-    let a = shared(
-        out,
-        at,
-        work,
-        n,
-        store,
-        Asked {
-            start,
-            budget,
-            room,
-        },
-    );
-    let b = put(out, a, b' ');
-    Line::Is(e, buffer(out, b, store, room))
+    let asked = Asked {
+        start,
+        budget,
+        room,
+    };
+    Line::Is(e, share_line(out, at, work, n, store, asked))
 }
 
 pub fn share_case(
@@ -150,6 +156,20 @@ fn chosen(
     buffer(out, b, p, k)
 }
 
+fn choice_line(
+    out: &mut [u8],
+    at: usize,
+    work: &[u8],
+    n: usize,
+    store: &mut [u8],
+    room: usize,
+) -> usize {
+    unset(store, room);
+    let a = chosen(out, at, work, n, store, room);
+    let b = put(out, a, b' ');
+    buffer(out, b, store, room)
+}
+
 pub fn choice_case(
     input: &mut [u8],
     c: Cursor,
@@ -164,8 +184,5 @@ pub fn choice_case(
     let NumberAt::Is(n, e) = bytes(input, d, work) else {
         return Line::Malformed;
     };
-    unset(store, room);
-    let a = chosen(out, at, work, n, store, room);
-    let b = put(out, a, b' ');
-    Line::Is(e, buffer(out, b, store, room))
+    Line::Is(e, choice_line(out, at, work, n, store, room))
 }
