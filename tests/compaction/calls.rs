@@ -3,9 +3,10 @@
 //!   calls COUNT SEED
 //!
 //! On each capture the call is made from 0, every place of a record, a place inside each, the end and past it; at each start with every budget at which one
-//! record more is done, one below and one above it, 0 and more than enough; each into a destination as long as the budget, a longer one and one that is
-//! shorter by one. Of captures with many records the budgets of start 0 are all taken, and of the others some. Every field of the answer and every byte of
-//! the destination and beside it are compared. Then calls are resumed with random budgets until the end, the output is compacted again, and read back.
+//! record more is done, one below and one above it, 0 and more than enough; each into a destination as long as the budget, one that is shorter by one, and
+//! at every second budget a longer one. Of captures with more than 12 records or 10,000 bytes, start 0 has all budgets, and some six records are taken as
+//! starts, with some budgets each. Every field of the answer and every byte of the destination and beside it are compared. Then calls are resumed with
+//! random budgets until the end, the output is compacted again, and read back.
 
 mod compactor;
 mod generate;
