@@ -3,6 +3,7 @@
 //!   program shares COUNT SEED WORK COMMAND..      kind 25: generated captures with starts, budgets and rooms, many to a run
 //!   program choices COUNT SEED WORK COMMAND..     kind 26: generated packets with work rooms, many to a run
 //!   program malformed WORK COMMAND..              cases of both kinds that are malformed or cut short
+//!   program record COUNT SEED MOST WORK           so many cases of each kind, of at most MOST bytes, to WORK/record.bin, and their lines to WORK/record.txt
 //!   program edges                                 the request's own cases, and the shorter spelling, by the independent compactor alone
 //!
 //! WORK is a folder for what the command gets as its standard input.
@@ -178,6 +179,26 @@ fn cases(what: &str, make: fn(&mut Random) -> Case, names: [&str; 5], count: usi
     differ
 }
 
+/// A list of cases and their lines, for the gate: no room above 2,500 bytes, which would be a long line.
+fn record(count: usize, seed: u64, most: usize, work: &str) {
+    let mut r = Random::new(seed);
+    let (mut input, mut lines) = (Vec::new(), String::new());
+    for make in [share_case as fn(&mut Random) -> Case, choice_case] {
+        let mut left = count;
+        while left > 0 {
+            let (case, line, _) = make(&mut r);
+            if case.len() <= most && line.len() <= 5000 {
+                input.extend(case);
+                lines += &line;
+                lines.push('\n');
+                left -= 1;
+            }
+        }
+    }
+    write(format!("{work}/record.bin"), input).expect("the list's file");
+    write(format!("{work}/record.txt"), lines).expect("the lines' file");
+}
+
 /// Cases that are malformed by their numbers or cut short: behind the line of a case that is not, each prints that word and ends the program.
 fn malformed(work: &str, command: &[String]) -> usize {
     let case = |kind: u8, numbers: &[i32], bytes: &[u8]| {
@@ -263,6 +284,10 @@ fn main() {
         "shares" => cases("shares", share_case, SHARES, number(1) as usize, number(2), &words[3], &words[4..]),
         "choices" => cases("choices", choice_case, CHOICES, number(1) as usize, number(2), &words[3], &words[4..]),
         "malformed" => malformed(&words[1], &words[2..]),
+        "record" => {
+            record(number(1) as usize, number(2), number(3) as usize, &words[4]);
+            0
+        }
         _ => {
             edges();
             0
