@@ -1,6 +1,6 @@
 /* Compacts a capture file by shares, `compact IN OUT BUDGET`: each share writes at most BUDGET bytes. They go into OUT.part, which takes the name OUT only
- * when all of it is on disk and was read back. Whatever fails is told, with status 2, and leaves IN and OUT as they were. Over include/aveluafi.h.
- * examples/run builds and runs it; compact.rs does the same in Rust and prints the same text. */
+ * when all of it is on disk and was read back: OUT may be IN itself, and only then is the original replaced. Whatever fails is told, with status 2, and
+ * leaves IN and OUT as they were. Over include/aveluafi.h. examples/run builds and runs it; compact.rs does the same in Rust and prints the same text. */
 #define _POSIX_C_SOURCE 200809L
 #include "aveluafi.h"
 

@@ -1,6 +1,7 @@
 //! Compacts a capture file by shares, `compact IN OUT BUDGET`: each share writes at most BUDGET bytes. They go into OUT.part, which takes the name OUT only
-//! when all of it is on disk and was read back. Whatever fails is told, with status 2, and leaves IN and OUT as they were. Through the safe wrapper in
-//! aveluafi.rs. examples/run builds and runs it; compact.c does the same in C and prints the same text.
+//! when all of it is on disk and was read back: OUT may be IN itself, and only then is the original replaced. Whatever fails is told, with status 2, and
+//! leaves IN and OUT as they were. Through the safe wrapper in aveluafi.rs. examples/run builds and runs it; compact.c does the same in C and prints the
+//! same text.
 
 #[allow(dead_code)]
 mod aveluafi;
