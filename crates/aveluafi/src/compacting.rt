@@ -1,7 +1,7 @@
 // A share of compaction (document 02, M-103), exported.
 ghost use mathlib.Core.Path.{_≡_};
 ghost use lib.ListN.{length};
-ghost use Rattle.compaction.specs.Share.{night, share, left};
+ghost use Rattle.compaction.specs.Share.{night, share, leaves};
 ghost use Rattle.aveluafi.specs.Records.{shareRecord};
 
 // What a share did; all zeros beside a refusal.
@@ -29,7 +29,7 @@ pub extern "C" fn aveluafi_compact(
     ensures answer { λ r. ⌜ r
         ≡ shareRecord (share (now («data» .entry)) (night (now («data» .entry)) start (length (now (dst .entry))) budget)) ⌝ }
     ensures bytes { λ _. ⌜ now (dst .exit)
-        ≡ left (now («data» .entry)) (now (dst .entry)) (night (now («data» .entry)) start (length (now (dst .entry))) budget) ⌝ }
+        ≡ leaves (now («data» .entry)) (now (dst .entry)) (night (now («data» .entry)) start (length (now (dst .entry))) budget) ⌝ }
 {
     let s = compaction::compact_share(data, start, dst, budget);
     let v = s.verdict;

@@ -17,7 +17,7 @@ use Rattle.capture.proofs.Written.{written-length}
 use Rattle.capture.proofs.Promises.{records-read-back}
 use Rattle.spelling.proofs.Laws.{again}
 use Rattle.compaction.specs.Account.{entryOf, rewritten, size, entries, output, Account, account}
-use Rattle.compaction.specs.Share.{stop, night, share, left}
+use Rattle.compaction.specs.Share.{stop, night, share, leaves}
 use Rattle.compaction.specs.Nights.{recordsIn}
 use Rattle.compaction.specs.declared.Share.{Share}
 use Rattle.compaction.proofs.Going.{same-account}
@@ -74,7 +74,7 @@ module _ (es : List Entry) (h : HoldAll es) (k : Settled es) where
       → let n = night (fileOf es) 0 room budget in
       (share (fileOf es) n
       ≡ record { verdict = Accepted; resume = length (fileOf es); records = length es; written = length (fileOf es); reclaimed = 0; passed = 0 })
-      × ((dst : List ℕ) → left (fileOf es) dst n ≡ sets dst 0 (fileOf es))
+      × ((dst : List ℕ) → leaves (fileOf es) dst n ≡ sets dst 0 (fileOf es))
   file-again room budget fits roomy =
       let s = fileOf es in
       let m : length (output s (recordsIn (readings s 0))) ≤ budget = rw writes-itself fits in

@@ -18,7 +18,7 @@ use Rattle.capture.specs.Finding.{packetLength, packetAt, before, recordFrom, n
 use Rattle.capture.specs.Reading.{recordBytes, readingsIn}
 use Rattle.spelling.specs.Spelling.{spelling, compactOf, shorter}
 use Rattle.compaction.specs.Account.{account}
-use Rattle.compaction.specs.Share.{done, stop, night, noShare, share, left}
+use Rattle.compaction.specs.Share.{done, stop, night, noShare, share, leaves}
 use Rattle.compaction.specs.declared.Share.{Share}
 
 abbrev capture : List ℕ
@@ -36,7 +36,7 @@ abbrev answer : ℕ → ℕ → ℕ → Share
 answer start room budget = share capture (night capture start room budget)
 
 abbrev bytes : ℕ → ℕ → ℕ → List ℕ
-bytes start room budget = left capture (replicate room 238) (night capture start room budget)
+bytes start room budget = leaves capture (replicate room 238) (night capture start room budget)
 
 -- the whole of it; a budget that holds one record just so, and one that a second would pass; two records; from the end on, with no budget
 pub accepted : answer 0 99 99 ∷ answer 0 99 8 ∷ answer 0 99 14 ∷ answer 0 99 15 ∷ answer 26 0 0 ∷ []

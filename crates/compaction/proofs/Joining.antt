@@ -24,7 +24,7 @@ use Rattle.capture.proofs.Resuming.{splits-before}
 use Rattle.opus_defines.specs.declared.Refusal.the-variants.{BadArg, BufferTooSmall, OverBudget}
 use Rattle.compaction.specs.Account.{output, Account, account}
 use Rattle.opus_defines.specs.declared.Verdict.the-variants.{Accepted}
-use Rattle.compaction.specs.Share.{done, stop, refuses, does, stopping, night, share, left}
+use Rattle.compaction.specs.Share.{done, stop, refuses, does, stopping, night, share, leaves}
 use Rattle.compaction.specs.Nights.{recordsIn, together, Nights, over, next}
 use Rattle.compaction.proofs.Nights.{done-splits, stop-splits, stop-is-end, night-past, night-short, night-within}
 use Rattle.compaction.proofs.Nights.{stopping-some, stopping-end, stopping-over}
@@ -176,5 +176,5 @@ module _ (s : List ℕ) (start room budget : ℕ) (h : start ≤ length s) (k : 
       }
   one-share j e = rw (one-night, one-account, e, to-the-end)
 
-  pub one-left : (dst : List ℕ) → left s dst (night s start room budget) ≡ sets dst 0 (output s (recordsIn (readings s start)))
+  pub one-left : (dst : List ℕ) → leaves s dst (night s start room budget) ≡ sets dst 0 (output s (recordsIn (readings s start)))
   one-left dst = rw one-night

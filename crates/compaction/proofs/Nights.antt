@@ -25,7 +25,7 @@ use Rattle.capture.proofs.Answers.{found, next-end}
 use Rattle.capture.proofs.Steps.{Answer, reading-induction}
 use Rattle.capture.proofs.Resuming.{Splits, splits}
 use Rattle.compaction.specs.Account.{size, output, account}
-use Rattle.compaction.specs.Share.{fits, done, stop, Night, refuses, does, stopping, night, accounted, noShare, share, left}
+use Rattle.compaction.specs.Share.{fits, done, stop, Night, refuses, does, stopping, night, accounted, noShare, share, leaves}
 use Rattle.compaction.proofs.Steps.{none-fits, stops-here, goes-on}
 
 -- ---- the answers done, and the one at which the share stops
@@ -110,11 +110,11 @@ none-output s (d ∷ ds) e = never (cc)
 
 -- a refusal that comes before the share
 pub past-told : (s : List ℕ) (start budget : ℕ) (d : List ℕ) → length s < start → {r : Share} → r ≡ noShare BadArg
-    → (r ≡ share s (night s start (length d) budget)) × (d ≡ left s d (night s start (length d) budget))
+    → (r ≡ share s (night s start (length d) budget)) × (d ≡ leaves s d (night s start (length d) budget))
 past-told s start budget d h e = rw (night-past s start (length d) budget h) (e, refl)
 
 pub short-told : (s : List ℕ) (start budget : ℕ) (d : List ℕ) → start ≤ length s → length d < budget → {r : Share} → r ≡ noShare BufferTooSmall
-    → (r ≡ share s (night s start (length d) budget)) × (d ≡ left s d (night s start (length d) budget))
+    → (r ≡ share s (night s start (length d) budget)) × (d ≡ leaves s d (night s start (length d) budget))
 short-told s start budget d h k e = rw (night-short s start (length d) budget h k) (e, refl)
 
 -- a share that was made, with no record done no refusal yet
@@ -135,17 +135,17 @@ module _ (s : List ℕ) (start budget : ℕ) (d x : List ℕ) (h : start ≤ len
     place : r .resume ≡ a .place
     place = ap (λ (q : Share). q .resume) is
 
-    by-does : did ≡ does ds a → (r ≡ share s did) × (x ≡ left s d did)
+    by-does : did ≡ does ds a → (r ≡ share s did) × (x ≡ leaves s d did)
     by-does e = rw e (is, lies)
 
-    pub some-done : (r .records ≡ 0 → ⊥) → (r ≡ share s did) × (x ≡ left s d did)
+    pub some-done : (r .records ≡ 0 → ⊥) → (r ≡ share s did) × (x ≡ leaves s d did)
     some-done f = by-does (night-within s start (length d) budget h k ∙ stopping-some ds a (λ z. f (count ∙ z)))
 
-    pub none-left : r .records ≡ 0 → length s ≤ r .resume → (r ≡ share s did) × (x ≡ left s d did)
+    pub none-left : r .records ≡ 0 → length s ≤ r .resume → (r ≡ share s did) × (x ≡ leaves s d did)
     none-left z e =
         by-does (night-within s start (length d) budget h k ∙ stopping-end ds a (sym count ∙ z) (end-is-stop s start budget h (omega (arith, place))))
 
-    pub over-budget : r .records ≡ 0 → r .resume < length s → (noShare OverBudget ≡ share s did) × (x ≡ left s d did)
+    pub over-budget : r .records ≡ 0 → r .resume < length s → (noShare OverBudget ≡ share s did) × (x ≡ leaves s d did)
     over-budget z e =
         let none : length ds ≡ 0 = sym count ∙ z in
         let no : a .length ≡ 0 → ⊥ = λ z. omega (arith, place, stop-is-end s start budget h z) in

@@ -17,7 +17,7 @@ use Rattle.capture.specs.Reading.{readings, answersFor}
 use Rattle.capture.specs.declared.NextRecord.{NextRecord}
 use Rattle.capture.proofs.Promises.{records-read-back}
 use Rattle.compaction.specs.Account.{entryOf, rewritten, size, entries, output, Account, account}
-use Rattle.compaction.specs.Share.{done, stop, refuses, does, night, share, left}
+use Rattle.compaction.specs.Share.{done, stop, refuses, does, night, share, leaves}
 use Rattle.compaction.specs.Nights.{recordsIn, Nights}
 use Rattle.compaction.specs.Lossless.{Faithful}
 use Rattle.compaction.proofs.Nights.{night-past, night-short, account-records}
@@ -75,7 +75,7 @@ module _ (s : List ℕ) (start room budget : ℕ) where
 
     -- 4. What is written stands at the front of the destination, and no byte behind it changes.
     pub written-in-front : (dst : List ℕ) → length dst ≡ room → let n = night s start room budget in
-        (take (share s n .written) (left s dst n) ≡ output s ds) × (drop (share s n .written) (left s dst n) ≡ drop (share s n .written) dst)
+        (take (share s n .written) (leaves s dst n) ≡ output s ds) × (drop (share s n .written) (leaves s dst n) ≡ drop (share s n .written) dst)
     written-in-front dst l =
         let d = does-is s start room budget ds a e in
         let fit : length (output s ds) ≤ length dst = omega (arith, stops-exactly .1, d .roomy) in
@@ -102,7 +102,7 @@ module _ (s : List ℕ) (start room budget : ℕ) where
           (room′ budget′ : ℕ) → length out ≤ budget′ → budget′ ≤ room′ → let n = night out 0 room′ budget′ in
           (share out n
           ≡ record { verdict = Accepted; resume = length out; records = length ds; written = length out; reclaimed = 0; passed = 0 })
-          × ((dst : List ℕ) → left out dst n ≡ sets dst 0 out)
+          × ((dst : List ℕ) → leaves out dst n ≡ sets dst 0 out)
       again-changes-nothing room′ budget′ fits roomy =
           let k = file-again (map rewritten (entries s ds)) holds (settled s bytes ds) room′ budget′ fits roomy in
           let count : length (map rewritten (entries s ds)) ≡ length ds = length-map (entries s ds) rewritten ∙ length-map ds (entryOf s) in
@@ -111,7 +111,7 @@ module _ (s : List ℕ) (start room budget : ℕ) where
   -- 7. A refusal changes nothing, and beside it stand zeros.
   pub refused-changes-nothing : (e : Refusal) → night s start room budget ≡ refuses e
       → (share s (night s start room budget) ≡ record { verdict = Refused e; resume = 0; records = 0; written = 0; reclaimed = 0; passed = 0 })
-      × ((dst : List ℕ) → left s dst (night s start room budget) ≡ dst)
+      × ((dst : List ℕ) → leaves s dst (night s start room budget) ≡ dst)
   refused-changes-nothing e q = rw q (refl, λ dst. refl)
 
 -- 8. Calls resumed until the end, none of them refused, write, joined, what one call with ample budget writes, and their accounts together are its account.
@@ -127,7 +127,7 @@ module _ (s : List ℕ) (start : ℕ) (out : List ℕ) (k : Account) (nights : N
         reclaimed = k .reclaimed;
         passed = k .passed;
       })
-      × ((dst : List ℕ) → left s dst n ≡ sets dst 0 out)
+      × ((dst : List ℕ) → leaves s dst n ≡ sets dst 0 out)
   nights-are-one room budget fits roomy =
       let h = nights-start nights in
       let w = nights-write nights in

@@ -65,9 +65,9 @@ share s (refuses e) = noShare e
 share s (does ds a) = accounted a (account s a ds)
 
 -- what it leaves in the destination
-abbrev pub left : List ℕ → List ℕ → Night → List ℕ
-left s dst (refuses e) = dst
-left s dst (does ds a) = sets dst 0 (output s ds)
+abbrev pub leaves : List ℕ → List ℕ → Night → List ℕ
+leaves s dst (refuses e) = dst
+leaves s dst (does ds a) = sets dst 0 (output s ds)
 
 -- the number of an answer: 0, or the refusal's
 abbrev pub shareNumber : Share → ℤ

@@ -1,13 +1,13 @@
 // A share of compaction (document 02, M-103): the records of a capture from a place on, each with its packet in the shorter spelling, as many as a budget of
 // bytes holds.
 ghost use mathlib.Core.Path.{_≡_};
-ghost use Prim.Native.Nat.{_+_, _-_, _<_, _≤_};
+ghost use Prim.Native.Nat.{_+_, _-_, _≤_};
 ghost use lib.ListN.{length, drop};
 ghost use lib.Seq.{sets};
 ghost use Rattle.capture.specs.Finding.{packetLength};
 ghost use Rattle.capture.specs.Reading.{readings};
 ghost use Rattle.compaction.specs.Account.{output, account};
-ghost use Rattle.compaction.specs.Share.{done, stop, night, accounted, noShare, share as Share·share, left as Share·left};
+ghost use Rattle.compaction.specs.Share.{done, stop, night, accounted, noShare, share as Share·share, leaves};
 ghost use Rattle.compaction.specs.Parts.{headOf, entryAt, putOf, Runs, stopsAt};
 use capture::HEAD_BYTES;
 use opus_defines::Refusal;
@@ -182,7 +182,7 @@ pub fn compact_share(data: &[u8], start: usize, dst: &mut [u8], budget: usize) -
     ensures answer { λ r. ⌜ r
         ≡ Share·share (now («data» .entry)) (night (now («data» .entry)) start (length (now (dst .entry))) budget) ⌝ }
     ensures bytes { λ _. ⌜ now (dst .exit)
-        ≡ Share·left (now («data» .entry)) (now (dst .entry)) (night (now («data» .entry)) start (length (now (dst .entry))) budget) ⌝ }
+        ≡ leaves (now («data» .entry)) (now (dst .entry)) (night (now («data» .entry)) start (length (now (dst .entry))) budget) ⌝ }
 {
     if data.len() < start {
         return no_share(Refusal::BadArg);
