@@ -7,16 +7,20 @@ use mathlib.Core.Bool.{true, false}
 use lib.IntN.{ℤ, pos, negsuc}
 use lib.ListN.{replicate}
 use Rattle.opus_defines.specs.Rules.{ruleRefusal}
+use Rattle.opus_defines.specs.declared.Refusal.the-variants.{OverBudget}
 use Rattle.opus_defines.specs.declared.Report.{Report}
+use Rattle.opus_defines.specs.declared.Verdict.the-variants.{Accepted}
 use Rattle.opus_toc.specs.Toc.{duration}
 use Rattle.opus_size.specs.Answers.{sizeTold, parseSize}
 use Rattle.opus_format.specs.Reading.{read}
 use Rattle.opus.specs.Answers.{parsed}
 use Rattle.capture.specs.Finding.{packetLength, before, recordFrom, nextRecord}
-use Rattle.aveluafi.specs.Records.{sizeRecord, packetRecord, captureRecord}
+use Rattle.compaction.specs.Share.{noShare}
+use Rattle.aveluafi.specs.Records.{sizeRecord, packetRecord, captureRecord, shareRecord}
 use Rattle.aveluafi.specs.declared.reading.AveluafiSize.{AveluafiSize}
 use Rattle.aveluafi.specs.declared.reading.AveluafiPacket.{AveluafiPacket}
 use Rattle.aveluafi.specs.declared.captures.AveluafiRecord.{AveluafiRecord}
+use Rattle.aveluafi.specs.declared.compacting.AveluafiShare.{AveluafiShare}
 
 -- FC 01 is 256 in two bytes; cut short it is -1 with the rule that was told, at place 0; told rule 5 it is -1 without a rule
 pub sizes-in-c : sizeRecord (parseSize 7 (0xfc ∷ 0x01 ∷ [])) ∷ sizeRecord (parseSize 7 (0xfc ∷ [])) ∷ sizeRecord (parseSize 5 (0xfc ∷ [])) ∷ []
@@ -58,3 +62,10 @@ pub records-in-c : captureRecord (nextRecord sample 1) ∷ captureRecord (nextRe
     ∷ record { number = negsuc 0; line = 0; place = 0; length = 0; passed = 0 } ∷ []
 unfolding nextRecord recordFrom before packetLength
 records-in-c = refl
+
+-- a share that was done, with five numbers that are told apart, and one that is over its budget
+pub shares-in-c : shareRecord (record { verdict = Accepted; resume = 26; records = 3; written = 22; reclaimed = 1; passed = 4 })
+    ∷ shareRecord (noShare OverBudget) ∷ []
+    ≡ record { number = pos 0; resume = 26; records = 3; written = 22; reclaimed = 1; passed = 4 }
+    ∷ record { number = negsuc 20; resume = 0; records = 0; written = 0; reclaimed = 0; passed = 0 } ∷ []
+shares-in-c = refl
