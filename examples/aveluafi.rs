@@ -411,7 +411,8 @@ pub fn shares<'a>(capture: &'a [u8], start: usize, buffer: &'a mut [u8]) -> Shar
     Shares { capture, at: Some(start), buffer }
 }
 
-/// Goes from share to share, `while let Some(night) = shares.next_share()`. It is no `Iterator`: the bytes of a share stand in the buffer until the next.
+/// Goes from share to share: `while let Some(night) = shares.next_share()` lends the bytes of each, which stand in the buffer until the next; as an iterator,
+/// `for night in shares(..)`, it hands them out to keep.
 pub struct Shares<'a> {
     capture: &'a [u8],
     // None behind a refusal.
@@ -427,5 +428,13 @@ impl Shares<'_> {
         let night = compact(self.capture, start, self.buffer, budget);
         self.at = night.ok().map(|share| share.resume);
         Some(night.map(|share| (share, &self.buffer[..share.written])))
+    }
+}
+
+impl Iterator for Shares<'_> {
+    type Item = Result<(Share, Vec<u8>), Refusal>;
+
+    fn next(&mut self) -> Option<Self::Item> {
+        self.next_share().map(|night| night.map(|(share, bytes)| (share, bytes.to_vec())))
     }
 }

@@ -66,11 +66,14 @@ fn fill(data: &[u8], budget: usize, mut file: File, part: &Path, out: &Path) -> 
     // the same shares once more, held against what is read back; nothing stands behind the last
     file.rewind().map_err(at(part))?;
     let other = || format!("{}: not read back as it was written", part.display());
-    let mut back = vec![0; budget];
-    each_share(data, budget, |s, bytes| {
-        file.read_exact(&mut back[..s.written]).map_err(at(part))?;
-        (back[..s.written] == *bytes).then_some(()).ok_or_else(other)
-    })?;
+    let (mut again, mut back) = (vec![0; budget], vec![0; budget]);
+    for night in shares(data, 0, &mut again) {
+        let (share, bytes) = night.map_err(|refusal| refusal.to_string())?;
+        file.read_exact(&mut back[..share.written]).map_err(at(part))?;
+        if back[..share.written] != bytes {
+            return Err(other());
+        }
+    }
     if file.read(&mut [0]).map_err(at(part))? != 0 {
         return Err(other());
     }
