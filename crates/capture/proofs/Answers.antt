@@ -2,6 +2,7 @@
 --     next-line, next-begins, next-place-le, next-within     its line, where it begins, and that it ends within the capture
 --     next-stands, next-nothing, next-end, next-moves     where a record stands and where none does
 --     next-again     the answer at a place between
+--     end-passes-none     the answer at the end
 --     found, none-behind     the same for any place, as a caller has it: an answer that is a record lies behind the place and within
 -- Assumes nothing.
 use mathlib.Core.Path.{_≡_, refl, ap}
@@ -140,6 +141,11 @@ module _ (s : List ℕ) (at : ℕ) (inside : at ≤ length s) where
       let same : k + before (drop k s) ≡ at + before l = omega (arith, next-place) in
       let fewer′ : before (drop k s) ≡ at + before l - k = omega (arith, next-place) in
       rw (next-is s k (omega (arith, next-place-le)), next-is s at inside, same, fewer′)
+
+-- at the end nothing is passed over
+pub end-passes-none : (s : List ℕ) → nextRecord s (length s) .passed ≡ 0
+unfolding before
+end-passes-none s = rw (drop-length s) at (next-passed s (length s) (omega arith))
 
 -- ---- an answer that is a record, whatever place was asked for
 pub record Found (s : List ℕ) (at : ℕ) (a : NextRecord) : Type 0 where

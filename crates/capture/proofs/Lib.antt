@@ -2,6 +2,8 @@
 pub mod Laws
 pub mod Depth
 pub mod Written
+pub mod Packets
+pub mod Files
 pub mod Answers
 pub mod Steps
 pub mod Whole

@@ -2,28 +2,29 @@
 --     settled, all-settled     a record that was rewritten is rewritten to itself
 --     file-again               a call with ample budget on a file of such records
 -- Assumes nothing.
-use Prim.Native.Nat.{ℕ, suc, _+_, _-_, _≤_}
+use Prim.Native.Nat.{ℕ, _+_, _-_, _≤_}
 use native.Mathlib.Omega.{arith}
-use mathlib.Core.Path.{_≡_, refl, sym, ap, _∙_}
-use mathlib.Core.List.{List, [], _∷_, _++_, append-assoc, append-nil, map}
-use lib.ListN.{length, length-append, length-map}
+use mathlib.Core.Path.{_≡_, refl, ap, _∙_}
+use mathlib.Core.List.{List, [], _∷_, _++_, append-assoc, map}
+use lib.ListN.{length, length-append}
 use lib.Seq.{sets}
 use Rattle.laws.specs.Bytes.{Bytes}
 use Rattle.opus_defines.specs.declared.Verdict.the-variants.{Accepted}
 use Rattle.capture.specs.Records.{Entry, written, fileOf, HoldAll}
 use Rattle.capture.specs.Reading.{readings, answersFor}
 use Rattle.capture.specs.declared.NextRecord.{NextRecord}
+use Rattle.capture.proofs.Packets.{packet-bytes}
+use Rattle.capture.proofs.Files.{file-none, file-one, answers-none, answers-one}
 use Rattle.capture.proofs.Written.{written-length}
 use Rattle.capture.proofs.Promises.{records-read-back}
 use Rattle.spelling.proofs.Laws.{again}
-use Rattle.compaction.specs.Account.{entryOf, rewritten, size, entries, output, Account, account}
-use Rattle.compaction.specs.Share.{stop, night, share, leaves}
+use Rattle.compaction.specs.Account.{entryOf, rewritten, size, entries, output}
+use Rattle.compaction.specs.Share.{night, share, leaves}
 use Rattle.compaction.specs.Nights.{recordsIn}
-use Rattle.compaction.specs.declared.Share.{Share}
 use Rattle.compaction.proofs.Going.{same-account}
 use Rattle.compaction.proofs.Whole.{whole, whole-end, whole-none, whole-one}
 use Rattle.compaction.proofs.Joining.{one-share, one-left}
-use Rattle.compaction.proofs.Faithful.{packet-bytes, packet-back, entries-back}
+use Rattle.compaction.proofs.Faithful.{packet-back, entries-back}
 
 -- ---- records that are rewritten to themselves
 abbrev pub Settled : List Entry → Type 0
@@ -44,10 +45,9 @@ all-settled (e ∷ es) h = rw (h .0, all-settled es (h .1))
 whole-from : (p : List ℕ) (es : List Entry) → HoldAll es → Settled es
     → whole (p ++ fileOf es) (answersFor (length p) es)
     ≡ record { records = length es; written = length (fileOf es); reclaimed = 0; passed = 0 }
-unfolding fileOf answersFor
 whole-from p [] h k =
     let a : NextRecord = record { verdict = Accepted; line = 0; place = length p; length = 0; passed = 0 } in
-    whole-none (p ++ []) a [] refl ∙ rw (whole-end (p ++ []))
+    rw (file-none, answers-none (length p)) (whole-none (p ++ []) a [] refl ∙ rw (whole-end (p ++ [])))
 whole-from p (e ∷ es) h k =
     let a : NextRecord = record { verdict = Accepted; line = e .line; place = length p; length = length (e .packet); passed = 0 } in
     let s = p ++ (written e ++ fileOf es) in
@@ -59,8 +59,9 @@ whole-from p (e ∷ es) h k =
     let rest : whole s (answersFor (length p + (5 + length (e .packet))) es)
     ≡ record { records = length es; written = length (fileOf es); reclaimed = 0; passed = 0 } =
     rw (place, ← append-assoc p (written e) (fileOf es)) (whole-from (p ++ written e) es (h .1) (k .1)) in
-    whole-one s a (answersFor (length p + (5 + length (e .packet))) es) some
-    ∙ rw rest (same-account (omega arith) (omega (arith, own, length-append (written e) (fileOf es), written-length e)) (omega (arith, own)) (omega arith))
+    rw (file-one e es, answers-one (length p) e es)
+    (whole-one s a (answersFor (length p + (5 + length (e .packet))) es) some
+    ∙ rw rest (same-account (omega arith) (omega (arith, own, length-append (written e) (fileOf es), written-length e)) (omega (arith, own)) (omega arith)))
 
 -- ---- a call on it
 module _ (es : List Entry) (h : HoldAll es) (k : Settled es) where

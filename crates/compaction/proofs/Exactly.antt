@@ -4,24 +4,24 @@
 --     stops-within, stops-before         what was done fits, and one record more does not
 --     past-only, short-only, over-only, over-said     each refusal
 -- Assumes nothing.
-use Prim.Native.Nat.{ℕ, suc, _+_, _-_, _<_, _≤_}
+use Prim.Native.Nat.{ℕ, _+_, _-_, _<_, _≤_}
 use native.Mathlib.Omega.{arith}
 use mathlib.Core.Path.{_≡_, refl, sym, ap, _∙_}
 use mathlib.Core.List.{List, [], _∷_}
-use mathlib.Core.Bool.{Bool, true, false, _&&_}
+use mathlib.Core.Bool.{true, false}
 use lib.Dec.{eqb, ltb, leb}
 use lib.ListN.{length}
-use borrow.Author.Tests.{eqb-true, eqb-false, ltb-true, ltb-false, leb-true, leb-false, lt-ltb}
+use borrow.Author.Tests.{eqb-false, ltb-true, ltb-false, leb-false, lt-ltb}
 use Rattle.laws.proofs.Never.{by-test, never}
 use Rattle.opus_defines.specs.declared.Refusal.{Refusal}
 use Rattle.opus_defines.specs.declared.Refusal.the-variants.{BadArg, BufferTooSmall, OverBudget}
 use Rattle.capture.specs.Finding.{nextRecord}
-use Rattle.capture.specs.Reading.{behind, recordBytes, readings}
+use Rattle.capture.specs.Reading.{behind, readings}
 use Rattle.capture.specs.declared.NextRecord.{NextRecord}
-use Rattle.capture.proofs.Answers.{found, all-bytes, next-place, next-passed}
+use Rattle.capture.proofs.Answers.{found, next-place, next-passed}
 use Rattle.capture.proofs.Steps.{reading-induction}
 use Rattle.compaction.specs.Account.{size, output, account}
-use Rattle.compaction.specs.Share.{fits, done, stop, refuses, does, stopping, night}
+use Rattle.compaction.specs.Share.{fits, done, stop, refuses, stopping, night}
 use Rattle.compaction.proofs.Entries.{next-size}
 use Rattle.compaction.proofs.Steps.{none-fits, over-fits, stops-here, goes-on, begin-with, stops}
 use Rattle.compaction.proofs.Going.{output-none}

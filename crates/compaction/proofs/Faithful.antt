@@ -6,14 +6,12 @@
 -- Assumes nothing.
 use Prim.Native.Nat.{ℕ, _+_, _≤_}
 use native.Mathlib.Omega.{arith}
-use mathlib.Core.Path.{_≡_, refl, sym, ap, _∙_}
-use mathlib.Core.List.{List, [], _∷_, _++_, append-assoc, append-nil, map}
-use mathlib.Core.Bool.{true, false}
+use mathlib.Core.Path.{_≡_, refl, ap, _∙_}
+use mathlib.Core.List.{List, [], _∷_, _++_, append-assoc, map}
+use mathlib.Core.Bool.{false}
 use lib.ListN.{length, getD, drop, length-append}
 use lib.Seq.{drop-append-seam}
 use Rattle.laws.specs.Bytes.{Bytes}
-use Rattle.laws.proofs.Bytes.{bytes-take, bytes-drop}
-use Rattle.laws.proofs.Never.{by-test}
 use Rattle.opus_defines.specs.declared.Verdict.the-variants.{Accepted}
 use Rattle.opus_format.specs.Frames.{lengths, cut}
 use Rattle.opus_format.specs.Reading.{Reading, refused, accepted, read}
@@ -21,6 +19,8 @@ use Rattle.capture.specs.Records.{Entry, Holds, written, fileOf, HoldAll}
 use Rattle.capture.specs.Finding.{packetLength, packetAt, nextRecord}
 use Rattle.capture.specs.Reading.{behind, readings, answersFor}
 use Rattle.capture.specs.declared.NextRecord.{NextRecord}
+use Rattle.capture.proofs.Packets.{packet-front, packet-bytes}
+use Rattle.capture.proofs.Files.{file-one, answers-none, answers-one}
 use Rattle.capture.proofs.Written.{written-length, written-packet}
 use Rattle.capture.proofs.Answers.{next-stands}
 use Rattle.capture.proofs.Steps.{reading-induction}
@@ -32,17 +32,17 @@ use Rattle.compaction.specs.Account.{entryOf, rewritten, entries}
 use Rattle.compaction.specs.Share.{done, stop}
 use Rattle.compaction.specs.Nights.{recordsIn}
 use Rattle.compaction.specs.Lossless.{Same, alike, kept, Faithful, none, one}
-use Rattle.compaction.proofs.Entries.{packet-in, stands-holds, answer-entry}
+use Rattle.compaction.proofs.Entries.{stands-holds, answer-entry}
 use Rattle.compaction.proofs.Whole.{records-none, records-one, records-end, records-done}
 use Rattle.compaction.proofs.Joining.{later, answers}
 
 -- ---- one record
 module _ (e : Entry) (bytes : Bytes (e .packet)) (h : Holds e) where
-  pub rewritten-holds : Holds (rewritten e)
+  rewritten-holds : Holds (rewritten e)
   rewritten-holds =
       record { some = not-empty (e .packet) 65535 bytes (h .some); most = omega (arith, no-longer (e .packet) 65535, h .most) }
 
-  pub packet-same : Same (e .packet) (rewritten e .packet)
+  packet-same : Same (e .packet) (rewritten e .packet)
   packet-same = go (read false (e .packet)) refl
     where
       go : (x : Reading) → read false (e .packet) ≡ x → Same (e .packet) (rewritten e .packet)
@@ -54,10 +54,6 @@ module _ (e : Entry) (bytes : Bytes (e .packet)) (h : Holds e) where
           (reads-back w .1) (cuts-back w)
 
 -- ---- all records of answers
-pub packet-bytes : (s : List ℕ) (at : ℕ) → Bytes s → Bytes (packetAt s at)
-unfolding packetAt
-packet-bytes s at bytes = bytes-take (packetLength (drop at s)) (drop (at + 5) s) (bytes-drop (at + 5) s bytes)
-
 -- a record stands at the place of each
 abbrev pub StandAll : List ℕ → List NextRecord → Type 0
 StandAll s [] = Unit {0}
@@ -96,11 +92,11 @@ module _ (s : List ℕ) (bytes : Bytes s) where
 -- ---- the records of a file of records
 module _ (p : List ℕ) (e : Entry) (rest : List ℕ) where
   pub packet-back : packetAt (p ++ (written e ++ rest)) (length p) ≡ e .packet
-  packet-back = packet-in (p ++ (written e ++ rest)) (length p) ∙ (ap (λ (l : List ℕ). packetAt l 0) (drop-append-seam p (written e ++ rest)) ∙ written-packet e rest)
+  packet-back = packet-front (p ++ (written e ++ rest)) (length p) ∙ (ap (λ (l : List ℕ). packetAt l 0) (drop-append-seam p (written e ++ rest)) ∙ written-packet e rest)
 
 entries-from : (p : List ℕ) (es : List Entry) → HoldAll es → entries (p ++ fileOf es) (recordsIn (answersFor (length p) es)) ≡ es
-unfolding fileOf answersFor
-entries-from p [] h = rw (records-none (record { verdict = Accepted; line = 0; place = length p; length = 0; passed = 0 }) [] refl, records-end)
+entries-from p [] h =
+    rw (answers-none (length p), records-none (record { verdict = Accepted; line = 0; place = length p; length = 0; passed = 0 }) [] refl, records-end)
 entries-from p (e ∷ es) h =
     let a : NextRecord = record { verdict = Accepted; line = e .line; place = length p; length = length (e .packet); passed = 0 } in
     let some : length (e .packet) ≡ 0 → ⊥ = λ z. omega (arith, h .0 .some) in
@@ -108,7 +104,7 @@ entries-from p (e ∷ es) h =
     let first : entryOf (p ++ (written e ++ fileOf es)) a ≡ e = rw (packet-back p e (fileOf es)) in
     let rest : entries (p ++ (written e ++ fileOf es)) (recordsIn (answersFor (length p + (5 + length (e .packet))) es)) ≡ es =
     rw (place, ← append-assoc p (written e) (fileOf es)) (entries-from (p ++ written e) es (h .1)) in
-    rw (records-one a (answersFor (length p + (5 + length (e .packet))) es) some, first, rest)
+    rw (file-one e es, answers-one (length p) e es, records-one a (answersFor (length p + (5 + length (e .packet))) es) some, first, rest)
 
 pub entries-back : (es : List Entry) → HoldAll es → entries (fileOf es) (recordsIn (readings (fileOf es) 0)) ≡ es
 entries-back es h = rw (records-read-back es h) (entries-from [] es h)

@@ -4,8 +4,8 @@
 --     taken              the next record is done
 --     ended              the next answer is not done, and the share stops there
 -- Assumes nothing.
-use Prim.Native.Nat.{ℕ, suc, _+_, _-_, _<_, _≤_}
-use native.Mathlib.Nat.{zero-add, add-zero, sub-zero}
+use Prim.Native.Nat.{ℕ, _+_, _-_, _≤_}
+use native.Mathlib.Nat.{add-zero, sub-zero}
 use native.Mathlib.Omega.{arith}
 use mathlib.Core.Path.{_≡_, refl, sym, ap, _∙_}
 use mathlib.Core.List.{List, [], _∷_, _++_, append-nil, append-assoc, map}
@@ -13,12 +13,13 @@ use mathlib.Core.Bool.{false}
 use lib.ListN.{length, length-append}
 use lib.Seq.{sets, length-sets}
 use Rattle.blocks.proofs.Sets.{sets-append}
-use Rattle.capture.specs.Records.{written, fileOf}
+use Rattle.capture.specs.Records.{written}
 use Rattle.capture.specs.Finding.{nextRecord}
 use Rattle.capture.specs.Reading.{behind, readings}
 use Rattle.capture.specs.declared.NextRecord.{NextRecord}
+use Rattle.capture.proofs.Files.{file-none, file-one}
 use Rattle.capture.proofs.Answers.{found, next-place, next-passed, next-within, next-moves}
-use Rattle.compaction.specs.Account.{entryOf, rewritten, size, output, Account, counting, account}
+use Rattle.compaction.specs.Account.{entryOf, rewritten, size, entries, output, Account, counting, account}
 use Rattle.compaction.specs.Share.{fits, done, stop, accounted}
 use Rattle.compaction.specs.Parts.{stopsAt}
 use Rattle.compaction.proofs.Entries.{size-written, next-size}
@@ -44,12 +45,10 @@ adding-one s a r w c p k = same-account (omega arith) (omega arith) (omega arith
 
 -- ---- the bytes of records done
 pub output-none : (s : List ℕ) → output s [] ≡ []
-unfolding fileOf
-output-none s = refl
+output-none s = file-none
 
 pub output-one : (s : List ℕ) (a : NextRecord) (ds : List NextRecord) → output s (a ∷ ds) ≡ written (rewritten (entryOf s a)) ++ output s ds
-unfolding fileOf
-output-one s a ds = refl
+output-one s a ds = file-one (rewritten (entryOf s a)) (map rewritten (entries s ds))
 
 -- ---- d was in the destination at first, and x is now; the records that end by `at` are done
 pub record Going (s : List ℕ) (start budget : ℕ) (d x : List ℕ) (at records put passed : ℕ) : Type 0 where
@@ -129,9 +128,6 @@ module _ (s : List ℕ) (start budget : ℕ) (d x : List ℕ) (at records put pa
 
     stop-is : stop s budget (readings s start) ≡ a
     stop-is = g .same-stop ∙ stops s at (budget - put) (g .inside) no .1
-
-    pub reached : start + put + (passed + a .passed) ≤ a .place
-    reached = omega (arith, g .spans, next-place s at (g .inside), next-passed s at (g .inside))
 
     pub ended : let b = stop s budget (readings s start) in
         (stopsAt start (a .place) records put (passed + a .passed) ≡ accounted b (account s b (done s budget (readings s start))))

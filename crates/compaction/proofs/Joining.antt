@@ -5,30 +5,28 @@
 --     nights-write, nights-account, nights-start
 --     one-night, one-share, one-left     a call with ample budget
 -- Assumes nothing.
-use Prim.Native.Nat.{ℕ, _+_, _≤_, _<_}
+use Prim.Native.Nat.{ℕ, _+_, _≤_}
 use native.Mathlib.Omega.{arith}
 use mathlib.Core.Path.{_≡_, refl, sym, ap, _∙_}
 use mathlib.Core.List.{List, [], _∷_, _++_}
-use mathlib.Core.Bool.{true, false}
 use lib.Dec.{eqb, ltb}
-use lib.ListN.{length, drop}
-use lib.Seq.{sets, drop-length}
+use lib.ListN.{length}
+use lib.Seq.{sets}
 use borrow.Author.Tests.{eqb-true, eqb-false, ltb-true, ltb-false}
 use Rattle.laws.proofs.Never.{by-test, never}
-use Rattle.capture.specs.Finding.{before, nextRecord}
-use Rattle.capture.specs.Reading.{begins, readings}
+use Rattle.capture.specs.Finding.{nextRecord}
+use Rattle.capture.specs.Reading.{readings}
 use Rattle.capture.specs.declared.NextRecord.{NextRecord}
-use Rattle.capture.proofs.Answers.{seenFrom, next-place-le, next-passed, none-behind}
+use Rattle.capture.proofs.Answers.{seenFrom, end-passes-none, none-behind}
 use Rattle.capture.proofs.Steps.{readings-end}
 use Rattle.capture.proofs.Resuming.{splits-before}
-use Rattle.opus_defines.specs.declared.Refusal.the-variants.{BadArg, BufferTooSmall, OverBudget}
 use Rattle.compaction.specs.Account.{output, Account, account}
 use Rattle.opus_defines.specs.declared.Verdict.the-variants.{Accepted}
-use Rattle.compaction.specs.Share.{done, stop, refuses, does, stopping, night, share, leaves}
+use Rattle.compaction.specs.Share.{done, stop, does, stopping, night, share, leaves}
 use Rattle.compaction.specs.Nights.{recordsIn, together, Nights, over, next}
 use Rattle.compaction.proofs.Nights.{done-splits, stop-splits, stop-is-end, night-past, night-short, night-within}
 use Rattle.compaction.proofs.Nights.{stopping-some, stopping-end, stopping-over}
-use Rattle.compaction.proofs.Going.{same-account, output-none}
+use Rattle.compaction.proofs.Going.{output-none}
 use Rattle.compaction.proofs.Whole.{records-none, records-one, records-end, records-done, output-append, whole, whole-end, whole-none, whole-split, Ample, ample}
 
 -- ---- a call that is not refused
@@ -90,14 +88,14 @@ module _ (s : List ℕ) (start budget : ℕ) (h : start ≤ length s) where
       (λ t. let z = eqb-true (last .length) 0 t in ap (output s) (records-none last later z ∙ sym (records-none b later z)))
       (λ t. let f = eqb-false (last .length) 0 t in rw (records-one last later f, records-one b later f))
 
-  pub written-then : output s (recordsIn r) ≡ output s (done s budget r) ++ output s (recordsIn (readings s (last .place)))
+  written-then : output s (recordsIn r) ≡ output s (done s budget r) ++ output s (recordsIn (readings s (last .place)))
   written-then =
       ap (λ (l : List NextRecord). output s (recordsIn l)) answers
       ∙ (ap (output s) (records-done s budget r (last ∷ later))
       ∙ (output-append s (done s budget r) (recordsIn (last ∷ later))
       ∙ ap (λ (l : List ℕ). output s (done s budget r) ++ l) (stop-output ∙ ap (λ (l : List NextRecord). output s (recordsIn l)) (sym resumed))))
 
-  pub account-then : whole s r ≡ together (account s last (done s budget r)) (whole s (readings s (last .place)))
+  account-then : whole s r ≡ together (account s last (done s budget r)) (whole s (readings s (last .place)))
   account-then =
       ap (whole s) answers
       ∙ (whole-split s budget r last later
@@ -116,11 +114,10 @@ does-splits s start room budget ds a e =
 -- ---- all of them
 at-the-end : (s : List ℕ) → (recordsIn (readings s (length s)) ≡ [])
     × (whole s (readings s (length s)) ≡ record { records = 0; written = 0; reclaimed = 0; passed = 0 })
-unfolding before
 at-the-end s =
     let a = nextRecord s (length s) in
     let z = none-behind s (length s) (omega arith) in
-    let none : a .passed ≡ 0 = rw (drop-length s) at (next-passed s (length s) (omega arith)) in
+    let none : a .passed ≡ 0 = end-passes-none s in
     rw (readings-end s (length s) z) (records-none a [] z ∙ records-end, whole-none s a [] z ∙ rw (whole-end s, none))
 
 pub nights-start : {s : List ℕ} {start : ℕ} {out : List ℕ} {k : Account} → Nights s start out k → start ≤ length s
@@ -149,7 +146,7 @@ module _ (s : List ℕ) (start room budget : ℕ) (h : start ≤ length s) (k : 
   all : Ample s budget (readings s start)
   all = ample s start h budget m
 
-  pub one-night : night s start room budget ≡ does (recordsIn (readings s start)) (stop s budget (readings s start))
+  one-night : night s start room budget ≡ does (recordsIn (readings s start)) (stop s budget (readings s start))
   one-night =
       let ds = done s budget (readings s start) in
       let a = stop s budget (readings s start) in

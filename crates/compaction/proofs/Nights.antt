@@ -8,8 +8,7 @@ use Prim.Native.Nat.{ℕ, suc, _-_, _<_, _≤_}
 use native.Mathlib.Omega.{arith}
 use mathlib.Core.Path.{_≡_, refl, sym, ap, _∙_}
 use mathlib.Core.List.{List, [], _∷_, _++_}
-use mathlib.Core.Bool.{Bool, true, false}
-use mathlib.Core.Logic.{inl}
+use mathlib.Core.Bool.{true, false}
 use lib.ListN.{length}
 use lib.Seq.{sets}
 use lib.Dec.{eqb}
@@ -17,16 +16,16 @@ use borrow.Author.Tests.{lt-ltb, le-ltb, eq-eqb, ne-eqb, eqb-true, eqb-false}
 use Rattle.laws.proofs.Never.{by-test, never}
 use Rattle.opus_defines.specs.declared.Refusal.the-variants.{BadArg, BufferTooSmall, OverBudget}
 use Rattle.compaction.specs.declared.Share.{Share}
-use Rattle.capture.specs.Records.{fileOf}
 use Rattle.capture.specs.Finding.{nextRecord}
 use Rattle.capture.specs.Reading.{behind, begins, readings}
 use Rattle.capture.specs.declared.NextRecord.{NextRecord}
 use Rattle.capture.proofs.Answers.{found, next-end}
-use Rattle.capture.proofs.Steps.{Answer, reading-induction}
+use Rattle.capture.proofs.Steps.{reading-induction}
 use Rattle.capture.proofs.Resuming.{Splits, splits}
 use Rattle.compaction.specs.Account.{size, output, account}
 use Rattle.compaction.specs.Share.{fits, done, stop, Night, refuses, does, stopping, night, accounted, noShare, share, leaves}
 use Rattle.compaction.proofs.Steps.{none-fits, stops-here, goes-on}
+use Rattle.compaction.proofs.Going.{output-none}
 
 -- ---- the answers done, and the one at which the share stops
 pub record Cut (s : List ℕ) (b : ℕ) (r : List NextRecord) : Type 0 where
@@ -63,7 +62,7 @@ module _ (s : List ℕ) (start b : ℕ) (h : start ≤ length s) where
       let p = stop-splits .answer in
       ap (λ (x : NextRecord). x .place) (p .is) ∙ next-end s _ (p .inside) (ap (λ (x : NextRecord). x .length) (sym (p .is)) ∙ z)
 
-  pub end-is-stop : length s ≤ last .place → last .length ≡ 0
+  end-is-stop : length s ≤ last .place → last .length ≡ 0
   end-is-stop e =
       let p = stop-splits .answer in
       by-test (eqb (last .length) 0) (eqb-true (last .length) 0)
@@ -104,8 +103,7 @@ account-records s a [] = refl
 account-records s a (d ∷ ds) = ap suc (account-records s a ds)
 
 none-output : (s : List ℕ) (ds : List NextRecord) → length ds ≡ 0 → output s ds ≡ []
-unfolding fileOf
-none-output s [] e = refl
+none-output s [] e = output-none s
 none-output s (d ∷ ds) e = never (cc)
 
 -- a refusal that comes before the share

@@ -2,7 +2,7 @@
 -- Assumes nothing.
 use Prim.Native.Nat.{ℕ, _+_, _<_, _≤_}
 use native.Mathlib.Omega.{arith}
-use mathlib.Core.Path.{_≡_, refl, sym, ap, _∙_}
+use mathlib.Core.Path.{_≡_, refl, ap, _∙_}
 use mathlib.Core.List.{List, _∷_, _++_, map}
 use lib.ListN.{length, take, drop, length-map}
 use lib.Seq.{sets}
@@ -17,7 +17,7 @@ use Rattle.capture.specs.Reading.{readings, answersFor}
 use Rattle.capture.specs.declared.NextRecord.{NextRecord}
 use Rattle.capture.proofs.Promises.{records-read-back}
 use Rattle.compaction.specs.Account.{entryOf, rewritten, size, entries, output, Account, account}
-use Rattle.compaction.specs.Share.{done, stop, refuses, does, night, share, leaves}
+use Rattle.compaction.specs.Share.{refuses, does, night, share, leaves}
 use Rattle.compaction.specs.Nights.{recordsIn, Nights}
 use Rattle.compaction.specs.Lossless.{Faithful}
 use Rattle.compaction.proofs.Nights.{night-past, night-short, account-records}

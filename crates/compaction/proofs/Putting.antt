@@ -12,7 +12,7 @@ use mathlib.Core.Path.{_≡_, refl, sym, ap, _∙_}
 use mathlib.Core.List.{List, [], _++_}
 use lib.ListN.{length, getD, take, drop, set, length-append, length-take, length-drop}
 use lib.Seq.{sets}
-use lib.Dec.{leb, ltb}
+use lib.Dec.{ltb}
 use borrow.Author.Tests.{le-leb, lt-leb, ltb-true, ltb-false}
 use borrow.Rule.Slice.PartMut.{putMid, put-same, same-len-mid}
 use Rattle.laws.specs.Bytes.{Bytes}
@@ -27,6 +27,7 @@ use Rattle.spelling.specs.declared.Spelling.the-variants.{Original, Compact}
 use Rattle.spelling.proofs.Laws.{original-is, compact-is, roomy, cramped}
 use Rattle.compaction.specs.Account.{rewritten}
 use Rattle.compaction.specs.Parts.{headOf, entryAt, putOf}
+use Rattle.capture.proofs.Files.{written-parts}
 use Rattle.capture.proofs.Laws.{packet-part, within as stands-in}
 use Rattle.spelling.specs.declared.Spelling.{Spelling}
 use Rattle.compaction.proofs.Entries.{size-written, stands-length, stands-holds, stands-written}
@@ -51,7 +52,7 @@ module _ (left : ℕ) (e : Entry) where
   unfolding putOf
   put-none h = rw (lt-leb (length (written (rewritten e))) left h)
 
-  pub put-headless : left < 5 → putOf left e ≡ []
+  put-headless : left < 5 → putOf left e ≡ []
   put-headless h = put-none (omega (arith, size-written e))
 
 -- ---- by the spelling, in the room behind the head
@@ -72,7 +73,7 @@ module _ (s : List ℕ) (bytes : Bytes s) (place n : ℕ) (is : n ≡ packetLeng
   short = stands-holds s place stands bytes .most
 
   module _ (own : spelling p room ≡ Original) where
-    pub put-too-long : room < n → putOf left e ≡ []
+    put-too-long : room < n → putOf left e ≡ []
     put-too-long h =
         by-test (ltb room (length (shorter p 65535)))
         (λ t. put-none left e (omega (arith, ltb-true room (length (shorter p 65535)) t, size-written e)))
@@ -80,7 +81,7 @@ module _ (s : List ℕ) (bytes : Bytes s) (place n : ℕ) (is : n ≡ packetLeng
         let same = original-is p 65535 (sym (roomy p room short k) ∙ own) in
         absurd (omega (arith, ap length same, packet-length)))
 
-    pub put-as-it-is : n ≤ room → putOf left e ≡ part s place (5 + n)
+    put-as-it-is : n ≤ room → putOf left e ≡ part s place (5 + n)
     put-as-it-is h =
         by-test (ltb room (length (shorter p 65535)))
         (λ t. absurd (omega (arith, cramped p room short (ltb-true room (length (shorter p 65535)) t) .1, packet-length)))
@@ -90,16 +91,15 @@ module _ (s : List ℕ) (bytes : Bytes s) (place n : ℕ) (is : n ≡ packetLeng
         put-all left e (omega (arith, k, size-written e)) ∙ (ap written stays ∙ (stands-written s place stands bytes ∙ rw (← is))))
 
   module _ (m : ℕ) (took : spelling p room ≡ Compact m) where
-    pub put-compact : putOf left e ≡ headOf (e .line) m ++ compactOf p
-    unfolding written
+    put-compact : putOf left e ≡ headOf (e .line) m ++ compactOf p
     put-compact =
         by-test (ltb room (length (shorter p 65535)))
         (λ t. let own = cramped p room short (ltb-true room (length (shorter p 65535)) t) .0 in never (cc))
         (λ t. let k = ltb-false room (length (shorter p 65535)) t in
         let c = compact-is p 65535 m (sym (roomy p room short k) ∙ took) in
-        put-all left e (omega (arith, k, size-written e)) ∙ rw (c .0, c .1))
+        put-all left e (omega (arith, k, size-written e)) ∙ (written-parts (rewritten e) ∙ rw (c .0, c .1)))
 
-    pub compact-room : (length (compactOf p) ≡ m) × (m ≤ room) × (m ≤ 65535)
+    compact-room : (length (compactOf p) ≡ m) × (m ≤ room) × (m ≤ 65535)
     compact-room = let c = compact-is p room m took in (c .1, c .3, omega (arith, short, c .2))
 
 -- ---- as the code has it: the packet is a part of the capture, and what is left of the budget behind the head a part of the destination d

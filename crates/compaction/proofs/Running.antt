@@ -4,30 +4,28 @@
 --     run-taken, run-done     they are done
 -- Assumes nothing.
 use Prim.Native.Nat.{ℕ, suc, _+_, _-_, _<_, _≤_}
-use native.Mathlib.Nat.{add-zero}
 use native.Mathlib.Omega.{arith}
 use mathlib.Core.Path.{_≡_, refl, sym, ap, _∙_}
 use mathlib.Core.List.{List}
-use lib.ListN.{length, getD, drop, length-drop}
-use lib.Seq.{sets, getD-take, getD-drop}
+use lib.ListN.{length, getD, drop}
+use lib.Seq.{sets}
 use Rattle.laws.specs.Bytes.{Bytes}
-use Rattle.laws.proofs.Bytes.{bytes-take, bytes-drop}
 use Rattle.blocks.specs.Blocks.{part}
 use Rattle.blocks.proofs.Sets.{sets-append, part-append, length-part}
 use Rattle.opus_toc.specs.Toc.{code}
 use Rattle.capture.specs.Records.{Entry, written}
 use Rattle.capture.specs.Finding.{packetLength, packetAt, nextRecord}
 use Rattle.capture.specs.Reading.{behind}
-use Rattle.capture.specs.declared.NextRecord.{NextRecord}
 use Rattle.capture.proofs.Laws.{before-here, within}
+use Rattle.capture.proofs.Packets.{packet-bytes, packet-first}
 use Rattle.capture.proofs.Answers.{found as found-next, next-place, next-passed, next-stands}
 use Rattle.spelling.proofs.Laws.{plain-stays}
 use Rattle.compaction.specs.Account.{entryOf, rewritten, size}
 use Rattle.compaction.specs.Parts.{entryAt, Runs, none, more}
-use Rattle.compaction.proofs.Entries.{stands-length, stands-holds, stands-written, answer-entry}
+use Rattle.compaction.proofs.Entries.{stands-length, stands-written, answer-entry}
 use Rattle.compaction.proofs.Going.{Going, taken}
 
-pub runs-within : (s : List ℕ) (at : ℕ) → at ≤ length s → {end k : ℕ} → Runs s at end k → (at ≤ end) × (end ≤ length s)
+runs-within : (s : List ℕ) (at : ℕ) → at ≤ length s → {end k : ℕ} → Runs s at end k → (at ≤ end) × (end ≤ length s)
 runs-within s at h none = (omega arith, h)
 runs-within s at h (more {end} r f c) =
     let w = within s end (packetLength (drop end s)) refl f in
@@ -77,18 +75,8 @@ module _ {s : List ℕ} {at left end records n : ℕ} (g : Found s at left end r
 
 -- ---- a record of code 0 or 1 at a place
 module _ (s : List ℕ) (bytes : Bytes s) (at : ℕ) (inside : at ≤ length s) (f : packetLength (drop at s) ≡ 0 → ⊥) (c : code (getD s (at + 5) 0) < 2) where
-  toc-is : getD (packetAt s at) 0 0 ≡ getD s (at + 5) 0
-  unfolding packetAt
-  toc-is =
-      let some : 0 < packetLength (drop at s) = omega arith in
-      getD-take (packetLength (drop at s)) (drop (at + 5) s) 0 0 some ∙ rw (getD-drop, add-zero)
-
-  packet-bytes : Bytes (packetAt s at)
-  unfolding packetAt
-  packet-bytes = bytes-take (packetLength (drop at s)) (drop (at + 5) s) (bytes-drop (at + 5) s bytes)
-
   stays : rewritten (entryAt s at) ≡ entryAt s at
-  stays = rw (plain-stays (packetAt s at) 65535 packet-bytes (rw toc-is c))
+  stays = rw (plain-stays (packetAt s at) 65535 (packet-bytes s at bytes) (rw (packet-first s at f) c))
 
   here : nextRecord s at .place ≡ at
   here = omega (arith, next-place s at inside, before-here (drop at s) f)
@@ -123,7 +111,7 @@ moved a b c e g = rw (← a, ← b, ← c, ← e) g
 
 module _ (s : List ℕ) (bytes : Bytes s) (start budget : ℕ) (d x : List ℕ) (at records put passed : ℕ)
     (g : Going s start budget d x at records put passed) where
-  pub run-taken : {end k : ℕ} → Runs s at end k → end - at ≤ budget - put
+  run-taken : {end k : ℕ} → Runs s at end k → end - at ≤ budget - put
       → Going s start budget d (sets x put (part s at (end - at))) end (records + k) (put + (end - at)) passed
   run-taken none h =
       let zero : at - at ≡ 0 = omega arith in

@@ -6,9 +6,8 @@
 -- Assumes nothing.
 use Prim.Native.Nat.{ℕ, _+_, _-_, _<_, _≤_}
 use native.Mathlib.Omega.{arith}
-use mathlib.Core.Path.{_≡_, refl, sym, ap, _∙_}
+use mathlib.Core.Path.{_≡_, sym, ap, _∙_}
 use mathlib.Core.List.{List, []}
-use mathlib.Core.Bool.{false}
 use lib.Dec.{ltb}
 use lib.ListN.{length, drop}
 use lib.Seq.{sets}
@@ -20,12 +19,12 @@ use Rattle.capture.specs.Reading.{behind, readings}
 use Rattle.capture.specs.declared.NextRecord.{NextRecord}
 use Rattle.capture.proofs.Answers.{found, next-place, next-passed, next-place-le, next-stands}
 use Rattle.compaction.specs.Account.{entryOf, rewritten, size, output, account}
-use Rattle.compaction.specs.Share.{fits, done, stop, accounted}
+use Rattle.compaction.specs.Share.{done, stop, accounted}
 use Rattle.compaction.specs.Parts.{entryAt, putOf, stopsAt}
 use Rattle.compaction.proofs.Entries.{size-written, answer-entry}
 use Rattle.compaction.proofs.Steps.{none-fits, over-fits}
 use Rattle.compaction.proofs.Putting.{put-all, put-none}
-use Rattle.compaction.proofs.Going.{Going, taken, reached, ended}
+use Rattle.compaction.proofs.Going.{Going, taken, ended}
 
 module _ (s : List ℕ) (start budget : ℕ) (d x : List ℕ) (at records put passed : ℕ) (g : Going s start budget d x at records put passed) where
   -- the share stops at the place of an answer b

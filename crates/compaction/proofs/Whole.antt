@@ -4,16 +4,16 @@
 --     whole, whole-split                          the account of all answers, and of those behind a stop
 --     ample-done, ample-stop, ample-account       a call whose budget holds all that is to be written
 -- Assumes nothing.
-use Prim.Native.Nat.{ℕ, suc, _+_, _-_, _<_, _≤_}
+use Prim.Native.Nat.{ℕ, _+_, _-_, _≤_}
 use native.Mathlib.Omega.{arith}
 use mathlib.Core.Path.{_≡_, refl, sym, ap, _∙_}
 use mathlib.Core.List.{List, [], _∷_, _++_, append-assoc}
-use mathlib.Core.Bool.{true, false, cond}
+use mathlib.Core.Bool.{true, cond}
 use lib.Dec.{eqb}
 use lib.ListN.{length, length-append}
 use borrow.Author.Tests.{eq-eqb, ne-eqb, eqb-true, eqb-false}
 use Rattle.laws.proofs.Never.{by-test, never}
-use Rattle.capture.specs.Records.{written, fileOf}
+use Rattle.capture.specs.Records.{written}
 use Rattle.capture.specs.Finding.{nextRecord}
 use Rattle.capture.specs.Reading.{behind, readings}
 use Rattle.capture.specs.declared.NextRecord.{NextRecord}
@@ -23,8 +23,8 @@ use Rattle.compaction.specs.Account.{entryOf, rewritten, size, output, A
 use Rattle.compaction.specs.Share.{fits, done, stop}
 use Rattle.compaction.specs.Nights.{recordsIn, together}
 use Rattle.compaction.proofs.Entries.{size-written}
-use Rattle.compaction.proofs.Steps.{none-fits, over-fits, some-fits, stops-here, goes-on}
-use Rattle.compaction.proofs.Going.{adding, same-account, output-one}
+use Rattle.compaction.proofs.Steps.{none-fits, some-fits, stops-here, goes-on}
+use Rattle.compaction.proofs.Going.{adding, same-account, output-none, output-one}
 
 -- ---- the records among answers
 module _ (a : NextRecord) (more : List NextRecord) where
@@ -56,11 +56,12 @@ records-done s b (a ∷ r) more =
 
 -- ---- what is written
 pub output-append : (s : List ℕ) (xs ys : List NextRecord) → output s (xs ++ ys) ≡ output s xs ++ output s ys
-unfolding fileOf
-output-append s [] ys = refl
+output-append s [] ys = rw (output-none s)
 output-append s (a ∷ xs) ys =
     let one = written (rewritten (entryOf s a)) in
-    ap (λ (l : List ℕ). one ++ l) (output-append s xs ys) ∙ sym (append-assoc one (output s xs) (output s ys))
+    output-one s a (xs ++ ys)
+    ∙ (ap (λ (l : List ℕ). one ++ l) (output-append s xs ys)
+    ∙ (sym (append-assoc one (output s xs) (output s ys)) ∙ ap (λ (l : List ℕ). l ++ output s ys) (sym (output-one s a xs))))
 
 pub output-size : (s : List ℕ) (a : NextRecord) (ds : List NextRecord) → length (output s (a ∷ ds)) ≡ size s a + length (output s ds)
 output-size s a ds =

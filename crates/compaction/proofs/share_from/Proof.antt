@@ -1,11 +1,10 @@
 -- `compaction::share_from` meets its contract. The loop's invariant is `Going`: what is done up to `at`, and that the share from there on is the rest of it.
 -- Assumes nothing.
-use Prim.Native.Nat.{_+_, _-_, _<_, _≤_}
+use Prim.Native.Nat.{_+_, _-_, _≤_}
 use native.Mathlib.Omega.{arith}
-use mathlib.Core.Path.{_≡_, sym, _∙_}
+use mathlib.Core.Path.{_≡_, _∙_}
 use borrow.Author.Needs.{needs}
 use lib.ListN.{length}
-use lib.Seq.{length-sets}
 use Rattle.laws.specs.Bytes.{Bytes}
 use Rattle.compaction.proofs.Going.{Going, same-long, begun}
 use Rattle.compaction.proofs.Running.{runs-move, run-done}
