@@ -85,7 +85,7 @@ begun s start budget d h =
       lies = refl;
     }
 
-module _ (s : List ℕ) (start budget : ℕ) (d x : List ℕ) (at records put passed : ℕ) (g : Going s start budget d x at records put passed) where
+module _ {s : List ℕ} {start budget : ℕ} {d x : List ℕ} {at records put passed : ℕ} (g : Going s start budget d x at records put passed) where
   abbrev a : NextRecord
   a = nextRecord s at
 

@@ -4,7 +4,8 @@
 --     put-as-it-is        the packet stays as it is
 --     put-compact         the compact packet is taken
 --     head-laid           the five bytes of a head
---     without-head, too-long, as-it-is, compact-put     the same as the code has it
+--     Asked, Spelt                                      what the code has asked, and which spelling was taken
+--     without-head, too-long, as-it-is, compact-put     what it has put then
 -- Assumes nothing.
 use Prim.Native.Nat.{ℕ, suc, _+_, _-_, _/_, _%_, _<_, _≤_}
 use native.Mathlib.Omega.{arith}
@@ -103,68 +104,90 @@ module _ (s : List ℕ) (bytes : Bytes s) (place n : ℕ) (is : n ≡ packetLeng
     compact-room = let c = compact-is p room m took in (c .1, c .3, omega (arith, short, c .2))
 
 -- ---- as the code has it: the packet is a part of the capture, and what is left of the budget behind the head a part of the destination d
-module _ (s : List ℕ) (bytes : Bytes s) (place n : ℕ) (is : n ≡ packetLength (drop place s)) (some : 1 ≤ n) (d : List ℕ) (at budget : ℕ)
-    (fit : at ≤ budget) (within : budget ≤ length d) where
-  abbrev packet : List ℕ
-  packet = take (place + 5 + n - (place + 5)) (drop (place + 5) s)
+abbrev packetIn : List ℕ → ℕ → ℕ → List ℕ
+packetIn s place n = take (place + 5 + n - (place + 5)) (drop (place + 5) s)
 
-  abbrev work : List ℕ
-  work = take (budget - (at + 5)) (drop (at + 5) d)
+abbrev workIn : List ℕ → ℕ → ℕ → List ℕ
+workIn d at budget = take (budget - (at + 5)) (drop (at + 5) d)
 
-  -- r bytes are put, and the destination is x
-  abbrev pub Puts : ℕ → List ℕ → Type 0
-  Puts r x = (r ≡ length (putOf (budget - at) (entryAt s place))) × (x ≡ sets d at (putOf (budget - at) (entryAt s place)))
+pub record Asked (s : List ℕ) (place n : ℕ) (d : List ℕ) (at budget : ℕ) : Type 0 where
+  pub bytes : Bytes s
+  pub is : n ≡ packetLength (drop place s)
+  pub some : 1 ≤ n
+  pub fit : at ≤ budget
+  pub within : budget ≤ length d
 
-  puts : (vs : List ℕ) → putOf (budget - at) (entryAt s place) ≡ vs → {r : ℕ} {x : List ℕ} → r ≡ length vs → x ≡ sets d at vs → Puts r x
-  puts vs e a b = rw e (a, b)
+-- the spelling c was taken, and v is left in that part of the destination
+pub record Spelt (s : List ℕ) (place n : ℕ) (d : List ℕ) (at budget : ℕ) (c : Spelling) (v : List ℕ) : Type 0 where
+  pub asked : Asked s place n d at budget
+  pub head : 5 ≤ budget - at
+  pub took : c ≡ spelling (packetIn s place n) (length (workIn d at budget))
+  pub wrote : v ≡ workAfter (compactOf (packetIn s place n)) (workIn d at budget) c
 
-  pub without-head : budget - at < 5 → Puts 0 d
-  without-head h = puts [] (put-headless (budget - at) (entryAt s place) h) refl refl
+-- r bytes are put, and the destination is x
+abbrev pub Puts : List ℕ → ℕ → List ℕ → ℕ → ℕ → ℕ → List ℕ → Type 0
+Puts s place d at budget r x =
+    (r ≡ length (putOf (budget - at) (entryAt s place))) × (x ≡ sets d at (putOf (budget - at) (entryAt s place)))
 
-  module _ (head : 5 ≤ budget - at) (c : Spelling) (v : List ℕ) (took : c ≡ spelling packet (length work)) (wrote : v ≡ workAfter (compactOf packet) work c) where
-    abbrev x : List ℕ
-    x = putMid (at + 5) (budget - (at + 5)) d v
+puts : (s : List ℕ) (place : ℕ) (d : List ℕ) (at budget : ℕ) (vs : List ℕ) → putOf (budget - at) (entryAt s place) ≡ vs → {r : ℕ} {x : List ℕ}
+    → r ≡ length vs → x ≡ sets d at vs → Puts s place d at budget r x
+puts s place d at budget vs e a b = rw e (a, b)
 
-    pub same-long : length v ≡ length work → length x ≡ length d
-    same-long e = same-len-mid (at + 5) (budget - (at + 5)) d v e
+pub without-head : (s : List ℕ) (place : ℕ) (d : List ℕ) (at budget : ℕ) → budget - at < 5 → Puts s place d at budget 0 d
+without-head s place d at budget h = puts s place d at budget [] (put-headless (budget - at) (entryAt s place) h) refl refl
 
-    packet-is : packet ≡ packetAt s place
-    packet-is = sym (packet-part s place n is)
+module _ {s : List ℕ} {place n : ℕ} {d : List ℕ} {at budget : ℕ} {c : Spelling} {v : List ℕ} (w : Spelt s place n d at budget c v) where
+  abbrev q : Asked s place n d at budget
+  q = w .asked
 
-    room-is : length work ≡ budget - (at + 5)
-    room-is = rw (length-take, length-drop) (omega arith)
+  abbrev x : List ℕ
+  x = putMid (at + 5) (budget - (at + 5)) d v
 
-    left-is : budget - at ≡ 5 + (budget - (at + 5))
-    left-is = omega arith
+  pub same-long : length v ≡ length (workIn d at budget) → length x ≡ length d
+  same-long e = same-len-mid (at + 5) (budget - (at + 5)) d v e
 
-    chosen : c ≡ spelling (packetAt s place) (budget - (at + 5))
-    chosen = took ∙ rw (packet-is, room-is)
+  packet-is : packetIn s place n ≡ packetAt s place
+  packet-is = sym (packet-part s place n (q .is))
 
-    module _ (own : c ≡ Original) where
-      untouched : x ≡ d
-      untouched = rw (wrote, own) (put-same (at + 5) (budget - (at + 5)) d)
+  room-is : length (workIn d at budget) ≡ budget - (at + 5)
+  room-is = rw (length-take, length-drop) (omega (arith, q .within))
 
-      pub too-long : budget - at - 5 < n → Puts 0 x
-      too-long h =
-          puts [] (put-too-long s bytes place n is some (budget - at) (budget - (at + 5)) left-is (sym chosen ∙ own) (omega arith)) refl untouched
+  left-is : budget - at ≡ 5 + (budget - (at + 5))
+  left-is = omega (arith, w .head)
 
-      pub as-it-is : n ≤ budget - at - 5 → {y : List ℕ} → y ≡ copied x at s place (5 + n) → Puts (5 + n) y
-      as-it-is h e =
-          puts (part s place (5 + n)) (put-as-it-is s bytes place n is some (budget - at) (budget - (at + 5)) left-is (sym chosen ∙ own) (omega arith))
-          (sym (length-part s place (5 + n) (omega (arith, stands-in s place n is (λ z. omega (arith, some)))))) (rw untouched at e)
+  chosen : c ≡ spelling (packetAt s place) (budget - (at + 5))
+  chosen = w .took ∙ rw (packet-is, room-is)
 
-    module _ (k : ℕ) (shorter-one : c ≡ Compact k) where
-      fits : (length (compactOf (packetAt s place)) ≡ k) × (k ≤ budget - (at + 5)) × (k ≤ 65535)
-      fits = compact-room s bytes place n is some (budget - at) (budget - (at + 5)) left-is k (sym chosen ∙ shorter-one)
+  module _ (own : c ≡ Original) where
+    untouched : x ≡ d
+    untouched = rw (w .wrote, own) (put-same (at + 5) (budget - (at + 5)) d)
 
-      pub few : (k ≤ budget - at - 5) × (k ≤ 65535)
-      few = (omega (arith, fits), fits .2)
+    pub too-long : budget - at - 5 < n → Puts s place d at budget 0 x
+    too-long h =
+        puts s place d at budget []
+        (put-too-long s (q .bytes) place n (q .is) (q .some) (budget - at) (budget - (at + 5)) left-is (sym chosen ∙ own) (omega arith)) refl untouched
 
-      pub compact-put : {y : List ℕ} → y ≡ sets x at (headOf (getD s (place + 2) 0) k) → Puts (5 + k) y
-      compact-put e =
-          let q = compactOf (packetAt s place) in
-          let front = headOf (getD s (place + 2) 0) k in
-          let behind : x ≡ sets d (at + 5) q =
-          rw (wrote, shorter-one, packet-is) (sets-part d (at + 5) (budget - (at + 5)) q (omega arith) (omega (arith, fits))) in
-          puts (front ++ q) (put-compact s bytes place n is some (budget - at) (budget - (at + 5)) left-is k (sym chosen ∙ shorter-one))
-          (omega (arith, length-append front q, fits)) (e ∙ rw behind (sets-before-sets d at front (at + 5) q refl))
+    pub as-it-is : n ≤ budget - at - 5 → {y : List ℕ} → y ≡ copied x at s place (5 + n) → Puts s place d at budget (5 + n) y
+    as-it-is h e =
+        puts s place d at budget (part s place (5 + n))
+        (put-as-it-is s (q .bytes) place n (q .is) (q .some) (budget - at) (budget - (at + 5)) left-is (sym chosen ∙ own) (omega arith))
+        (sym (length-part s place (5 + n) (omega (arith, stands-in s place n (q .is) (λ z. omega (arith, q .some)))))) (rw untouched at e)
+
+  module _ (k : ℕ) (shorter-one : c ≡ Compact k) where
+    fits : (length (compactOf (packetAt s place)) ≡ k) × (k ≤ budget - (at + 5)) × (k ≤ 65535)
+    fits =
+        compact-room s (q .bytes) place n (q .is) (q .some) (budget - at) (budget - (at + 5)) left-is k (sym chosen ∙ shorter-one)
+
+    pub few : k ≤ 65535
+    few = fits .2
+
+    pub compact-put : {y : List ℕ} → y ≡ sets x at (headOf (getD s (place + 2) 0) k) → Puts s place d at budget (5 + k) y
+    compact-put e =
+        let p = compactOf (packetAt s place) in
+        let front = headOf (getD s (place + 2) 0) k in
+        let behind : x ≡ sets d (at + 5) p =
+        rw (w .wrote, shorter-one, packet-is)
+        (sets-part d (at + 5) (budget - (at + 5)) p (omega (arith, w .head, q .within)) (omega (arith, fits))) in
+        puts s place d at budget (front ++ p)
+        (put-compact s (q .bytes) place n (q .is) (q .some) (budget - at) (budget - (at + 5)) left-is k (sym chosen ∙ shorter-one))
+        (omega (arith, length-append front p, fits)) (e ∙ rw behind (sets-before-sets d at front (at + 5) p refl))

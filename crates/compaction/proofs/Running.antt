@@ -109,7 +109,7 @@ moved : {s : List ℕ} {start budget : ℕ} {d x : List ℕ} {at at′ records r
     → put ≡ put′ → passed ≡ passed′ → Going s start budget d x at records put passed → Going s start budget d x at′ records′ put′ passed′
 moved a b c e g = rw (← a, ← b, ← c, ← e) g
 
-module _ (s : List ℕ) (bytes : Bytes s) (start budget : ℕ) (d x : List ℕ) (at records put passed : ℕ)
+module _ {s : List ℕ} {start budget : ℕ} {d x : List ℕ} {at records put passed : ℕ} (bytes : Bytes s)
     (g : Going s start budget d x at records put passed) where
   run-taken : {end k : ℕ} → Runs s at end k → end - at ≤ budget - put
       → Going s start budget d (sets x put (part s at (end - at))) end (records + k) (put + (end - at)) passed
@@ -132,7 +132,7 @@ module _ (s : List ℕ) (bytes : Bytes s) (start budget : ℕ) (d x : List ℕ) 
       let fit : size s a ≤ budget - (put + (end - at)) = omega (arith, within .0) in
       let next = next-is-one s bytes end (within .1) f c in
       moved (behind-is s bytes end (within .1) f c) (omega arith) (omega (arith, within .0)) (omega (arith, passes-none s bytes end (within .1) f c))
-      (taken s start budget d (sets x put (part s at (end - at))) end (records + count) (put + (end - at)) passed before next fit joined)
+      (taken before next fit joined)
 
   -- as the code has it
   pub run-done : {end k : ℕ} → Runs s at end k → end - at ≤ budget - put → {y : List ℕ} → y ≡ sets x put (part s at (end - at))

@@ -26,7 +26,7 @@ use Rattle.compaction.proofs.Steps.{none-fits, over-fits}
 use Rattle.compaction.proofs.Putting.{put-all, put-none}
 use Rattle.compaction.proofs.Going.{Going, taken, ended}
 
-module _ (s : List ℕ) (start budget : ℕ) (d x : List ℕ) (at records put passed : ℕ) (g : Going s start budget d x at records put passed) where
+module _ {s : List ℕ} {start budget : ℕ} {d x : List ℕ} {at records put passed : ℕ} (g : Going s start budget d x at records put passed) where
   -- the share stops at the place of an answer b
   abbrev pub Stops : NextRecord → List ℕ → Type 0
   Stops b y =
@@ -54,7 +54,7 @@ module _ (s : List ℕ) (start budget : ℕ) (d x : List ℕ) (at records put pa
   one-none h = put-none (budget - put) (entryAt s (a .place)) (omega (arith, long))
 
   ends : a .length ≡ 0 → Stops a x
-  ends z = ended s start budget d x at records put passed g (none-fits s (budget - put) a z)
+  ends z = ended g (none-fits s (budget - put) a z)
 
   module _ (k : ℕ) (n : k ≡ length one) (y : List ℕ) (b : y ≡ sets x put one) where
     none-put : k ≡ 0 → Stops a y
@@ -62,7 +62,7 @@ module _ (s : List ℕ) (start budget : ℕ) (d x : List ℕ) (at records put pa
         by-test (ltb (budget - put) (size s a))
         (λ t. let over = ltb-true (budget - put) (size s a) t in
         let same : y ≡ x = b ∙ rw (one-none over) in
-        rw same (ended s start budget d x at records put passed g (over-fits s (budget - put) a over)))
+        rw same (ended g (over-fits s (budget - put) a over)))
         (λ t. let h = ltb-false (budget - put) (size s a) t in
         absurd (omega (arith, n, ap length (one-all h), size-written (entryOf s a))))
 
@@ -73,7 +73,7 @@ module _ (s : List ℕ) (start budget : ℕ) (d x : List ℕ) (at records put pa
         (λ t. let h = ltb-false (budget - put) (size s a) t in
         let is : k ≡ size s a = omega (arith, n, ap length (one-all h), size-written (entryOf s a)) in
         let next : behind a ≡ a .place + 5 + a .length = found s at f .next in
-        rw (is, ← next) (taken s start budget d x at records put passed g f h (b ∙ rw (one-all h))))
+        rw (is, ← next) (taken g f h (b ∙ rw (one-all h))))
 
   -- ---- of the answer that the code has
   module _ (r : NextRecord) (is : r ≡ a) where

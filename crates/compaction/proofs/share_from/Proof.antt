@@ -83,10 +83,7 @@ loop-less c =
 loop-again : tie.Need-loop-again Inv-loop μ-loop
 loop-again c =
     let r = c .before .before .before .before .before .before .before in
-    let l = r .before .loop in
-    let a = entry (r .before) .args in
-    run-done (a .«data» .now) (known (r .before)) (a .start) (a .budget) (a .dst .now) (l .dst) (l .at) (l .records) (l .written) (l .passed) (l .inv)
-    (r .run-from .ensures .0) (bounds r .0) (c .before .before .before .copy-into .ensures)
+    run-done (known (r .before)) (r .before .loop .inv) (r .run-from .ensures .0) (bounds r .0) (c .before .before .before .copy-into .ensures)
 
 -- ---- a record
 module _ (c : tie.After-struct-known3 Inv-loop μ-loop) where
@@ -97,11 +94,7 @@ module _ (c : tie.After-struct-known3 Inv-loop μ-loop) where
       let l = here .loop in
       let a = entry here .args in
       (l .passed + r .passed ≤ length (a .«data» .now)) × (a .start + l .written + (l .passed + r .passed) ≤ r .place) × (r .place ≤ length (a .«data» .now))
-  moves =
-      let l = here .loop in
-      let a = entry here .args in
-      let r = c .before .next-record in
-      advanced (a .«data» .now) (a .start) (a .budget) (a .dst .now) (l .dst) (l .at) (l .records) (l .written) (l .passed) (l .inv) (r .result) (r .ensures)
+  moves = let r = c .before .next-record in advanced (here .loop .inv) (r .result) (r .ensures)
 
 add-passed : tie.Need-add-passed Inv-loop μ-loop
 add-passed c = omega (arith, moves c)
@@ -115,23 +108,16 @@ same-length c = same-long (here (c .before .before) .loop .inv)
 returns : tie.Need-returns Inv-loop μ-loop
 returns c =
     let k = c .before .before in
-    let l = here k .loop in
-    let a = entry (here k) .args in
     let r = k .before .next-record in
-    let e = last-one (a .«data» .now) (a .start) (a .budget) (a .dst .now) (l .dst) (l .at) (l .records) (l .written) (l .passed) (l .inv) (r .result) (r .ensures)
-    (c .before .if2 .taken) in
+    let e = last-one (here k .loop .inv) (r .result) (r .ensures) (c .before .if2 .taken) in
     (c .stopped .ensures ∙ e .0, e .1)
 
 put-record-requires : tie.Need-put-record-requires Inv-loop μ-loop
 put-record-requires c κs =
     let k = c .before .before in
-    let l = here k .loop in
-    let a = entry (here k) .args in
-    let r = k .before .next-record in (
-      (l .inv .room, roomy (here k)),
-      stands-there (a .«data» .now) (a .start) (a .budget) (a .dst .now) (l .dst) (l .at) (l .records) (l .written) (l .passed) (l .inv) (r .result) (r .ensures)
-          (c .before .if2 .left),
-    )
+    let g = here k .loop .inv in
+    let r = k .before .next-record in
+    ((g .room, roomy (here k)), stands-there g (r .result) (r .ensures) (c .before .if2 .left))
 
 -- behind `put_record`
 module _ (c : tie.After-slice-known3 Inv-loop μ-loop) where
@@ -140,17 +126,11 @@ module _ (c : tie.After-slice-known3 Inv-loop μ-loop) where
 
   -- where it put nothing
   stopped-there : c .before .before .put-record .result ≡ 0
-      → let l = here answer .loop in
-      let a = entry (here answer) .args in
-      Stops (a .«data» .now) (a .start) (a .budget) (a .dst .now) (l .dst) (l .at) (l .records) (l .written) (l .passed) (l .inv)
-      (answer .before .next-record .result) (c .before .before .put-record .last .0)
+      → Stops (here answer .loop .inv) (answer .before .next-record .result) (c .before .before .put-record .last .0)
   stopped-there =
-      let l = here answer .loop in
-      let a = entry (here answer) .args in
       let r = answer .before .next-record in
       let p = c .before .before .put-record in
-      nothing-put (a .«data» .now) (a .start) (a .budget) (a .dst .now) (l .dst) (l .at) (l .records) (l .written) (l .passed) (l .inv) (r .result) (r .ensures)
-      (p .result) (p .ensures .0) (p .last .0) (p .ensures .1)
+      nothing-put (here answer .loop .inv) (r .result) (r .ensures) (p .result) (p .ensures .0) (p .last .0) (p .ensures .1)
 
   -- and where it put the record
   gone-on : (c .before .before .put-record .result ≡ 0 → ⊥)
@@ -161,12 +141,10 @@ module _ (c : tie.After-slice-known3 Inv-loop μ-loop) where
       Going (a .«data» .now) (a .start) (a .budget) (a .dst .now) (p .last .0) (r .place + 5 + r .length) (l .records + 1) (l .written + p .result)
       (l .passed + r .passed)
   gone-on some =
-      let l = here answer .loop in
-      let a = entry (here answer) .args in
       let r = answer .before .next-record in
       let p = c .before .before .put-record in
-      one-put (a .«data» .now) (a .start) (a .budget) (a .dst .now) (l .dst) (l .at) (l .records) (l .written) (l .passed) (l .inv) (r .result) (r .ensures)
-      (p .result) (p .ensures .0) (p .last .0) (p .ensures .1) (c .before .before .before .before .if2 .left) some
+      one-put (here answer .loop .inv) (r .result) (r .ensures) (p .result) (p .ensures .0) (p .last .0) (p .ensures .1)
+      (c .before .before .before .before .if2 .left) some
 
 stopped-requires-2 : tie.Need-stopped-requires-2 Inv-loop μ-loop
 stopped-requires-2 c κs = moves (answer (c .before)) .1
@@ -196,11 +174,8 @@ add-at-2 c = omega (arith, gone-on (c .before) (c .if3 .left) .inside)
 loop-less-2 : tie.Need-loop-less-2 Inv-loop μ-loop
 loop-less-2 c =
     let k = answer (c .before) in
-    let l = here k .loop in
-    let a = entry (here k) .args in
     let r = k .before .next-record in
-    let on = on-move (a .«data» .now) (a .start) (a .budget) (a .dst .now) (l .dst) (l .at) (l .records) (l .written) (l .passed) (l .inv) (r .result) (r .ensures)
-    (c .before .before .before .before .before .if2 .left) in
+    let on = on-move (here k .loop .inv) (r .result) (r .ensures) (c .before .before .before .before .before .if2 .left) in
     omega (arith, on, gone-on (c .before) (c .if3 .left) .inside)
 
 loop-again-2 : tie.Need-loop-again-2 Inv-loop μ-loop
