@@ -92,7 +92,9 @@ module _ (s : List ℕ) (bytes : Bytes s) where
 -- ---- the records of a file of records
 module _ (p : List ℕ) (e : Entry) (rest : List ℕ) where
   pub packet-back : packetAt (p ++ (written e ++ rest)) (length p) ≡ e .packet
-  packet-back = packet-front (p ++ (written e ++ rest)) (length p) ∙ (ap (λ (l : List ℕ). packetAt l 0) (drop-append-seam p (written e ++ rest)) ∙ written-packet e rest)
+  packet-back =
+      packet-front (p ++ (written e ++ rest)) (length p)
+      ∙ (ap (λ (l : List ℕ). packetAt l 0) (drop-append-seam p (written e ++ rest)) ∙ written-packet e rest)
 
 entries-from : (p : List ℕ) (es : List Entry) → HoldAll es → entries (p ++ fileOf es) (recordsIn (answersFor (length p) es)) ≡ es
 entries-from p [] h =

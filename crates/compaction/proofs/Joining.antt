@@ -27,7 +27,8 @@ use Rattle.compaction.specs.Nights.{recordsIn, together, Nights, over, n
 use Rattle.compaction.proofs.Nights.{done-splits, stop-splits, stop-is-end, night-past, night-short, night-within}
 use Rattle.compaction.proofs.Nights.{stopping-some, stopping-end, stopping-over}
 use Rattle.compaction.proofs.Going.{output-none}
-use Rattle.compaction.proofs.Whole.{records-none, records-one, records-end, records-done, output-append, whole, whole-end, whole-none, whole-split, Ample, ample}
+use Rattle.compaction.proofs.Whole.{records-none, records-one, records-end, records-done, output-append}
+use Rattle.compaction.proofs.Whole.{whole, whole-end, whole-none, whole-split, Ample, ample}
 
 -- ---- a call that is not refused
 pub record Does (s : List ℕ) (start room budget : ℕ) (ds : List NextRecord) (a : NextRecord) : Type 0 where
