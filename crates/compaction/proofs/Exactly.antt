@@ -52,7 +52,8 @@ pub record Spans (s : List ℕ) (at b : ℕ) (r : List NextRecord) : Type 0 wher
   pub within : length (output s (done s b r)) ≤ b
   pub before : (stop s b r .length ≡ 0 → ⊥) → b < length (output s (done s b r)) + size s (stop s b r)
 
-spans-here : (s : List ℕ) (at b : ℕ) (more : List NextRecord) → at ≤ length s → fits s b (nextRecord s at) ≡ false → Spans s at b (nextRecord s at ∷ more)
+spans-here : (s : List ℕ) (at b : ℕ) (more : List NextRecord) → at ≤ length s → fits s b (nextRecord s at) ≡ false
+    → Spans s at b (nextRecord s at ∷ more)
 unfolding account
 spans-here s at b more h t =
     let a = nextRecord s at in

@@ -12,6 +12,7 @@ use mathlib.Core.Bool.{false}
 use lib.ListN.{length, getD, drop, length-append}
 use lib.Seq.{drop-append-seam}
 use Rattle.laws.specs.Bytes.{Bytes}
+use Rattle.blocks.specs.Blocks.{part}
 use Rattle.opus_defines.specs.declared.Verdict.the-variants.{Accepted}
 use Rattle.opus_format.specs.Frames.{lengths, cut}
 use Rattle.opus_format.specs.Reading.{Reading, refused, accepted, read}
@@ -31,8 +32,8 @@ use Rattle.spelling.proofs.Promises.{unreadable-stays, same-frames}
 use Rattle.compaction.specs.Account.{entryOf, rewritten, entries}
 use Rattle.compaction.specs.Share.{done, stop}
 use Rattle.compaction.specs.Nights.{recordsIn}
-use Rattle.compaction.specs.Lossless.{Same, alike, kept, Faithful, none, one}
-use Rattle.compaction.proofs.Entries.{stands-holds, answer-entry}
+use Rattle.compaction.specs.Lossless.{StandAll, Same, alike, kept, Faithful, none, one}
+use Rattle.compaction.proofs.Entries.{stands-holds, stands-written, answer-entry}
 use Rattle.compaction.proofs.Whole.{records-none, records-one, records-end, records-done}
 use Rattle.compaction.proofs.Joining.{later, answers}
 
@@ -54,19 +55,14 @@ module _ (e : Entry) (bytes : Bytes (e .packet)) (h : Holds e) where
           (reads-back w .1) (cuts-back w)
 
 -- ---- all records of answers
--- a record stands at the place of each
-abbrev pub StandAll : List ℕ → List NextRecord → Type 0
-StandAll s [] = Unit {0}
-StandAll s (a ∷ more) = Holds (entryOf s a) × StandAll s more
-
 module _ (s : List ℕ) (bytes : Bytes s) where
   pub hold-all : (ds : List NextRecord) → StandAll s ds → HoldAll (map rewritten (entries s ds))
   hold-all [] h = tt
-  hold-all (a ∷ ds) h = (rewritten-holds (entryOf s a) (packet-bytes s (a .place) bytes) (h .0), hold-all ds (h .1))
+  hold-all (a ∷ ds) h = (rewritten-holds (entryOf s a) (packet-bytes s (a .place) bytes) (h .0 .0), hold-all ds (h .1))
 
   pub all-same : (ds : List NextRecord) → StandAll s ds → Faithful (entries s ds) (map rewritten (entries s ds))
   all-same [] h = none
-  all-same (a ∷ ds) h = one refl (packet-same (entryOf s a) (packet-bytes s (a .place) bytes) (h .0)) (all-same ds (h .1))
+  all-same (a ∷ ds) h = one refl (packet-same (entryOf s a) (packet-bytes s (a .place) bytes) (h .0 .0)) (all-same ds (h .1))
 
   -- those of a reading do
   pub stand-all : (at : ℕ) → at ≤ length s → StandAll s (recordsIn (readings s at))
@@ -76,7 +72,10 @@ module _ (s : List ℕ) (bytes : Bytes s) where
       (λ at h f rest.
       let a = nextRecord s at in
       let stands : packetLength (drop (a .place) s) ≡ 0 → ⊥ = λ z. f (next-stands s at h ∙ z) in
-      rw (records-one a (readings s (behind a)) f) (rw (answer-entry s at h) (stands-holds s (a .place) stands bytes), rest))
+      let whole = answer-entry s at h in
+      let there : written (entryOf s a) ≡ part s (a .place) (5 + a .length) =
+      ap written whole ∙ rw (next-stands s at h) (stands-written s (a .place) stands bytes) in
+      rw (records-one a (readings s (behind a)) f) ((rw whole (stands-holds s (a .place) stands bytes), there), rest))
 
   -- and so do those of them that are done
   stand-front : (xs ys : List NextRecord) → StandAll s (xs ++ ys) → StandAll s xs

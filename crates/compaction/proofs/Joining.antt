@@ -102,7 +102,8 @@ module _ (s : List ℕ) (start budget : ℕ) (h : start ≤ length s) where
       ∙ (whole-split s budget r last later
       ∙ ap (λ (l : List NextRecord). together (account s last (done s budget r)) (whole s l)) (sym resumed))
 
-same-split : (more : List NextRecord) {r xs ds : List NextRecord} {b a : NextRecord} → ds ≡ xs → a ≡ b → r ≡ xs ++ (b ∷ more) → r ≡ ds ++ (a ∷ more)
+same-split : (more : List NextRecord) {r xs ds : List NextRecord} {b a : NextRecord} → ds ≡ xs → a ≡ b
+    → r ≡ xs ++ (b ∷ more) → r ≡ ds ++ (a ∷ more)
 same-split more d t e = rw (d, t) e
 
 pub does-splits : (s : List ℕ) (start room budget : ℕ) (ds : List NextRecord) (a : NextRecord) → night s start room budget ≡ does ds a

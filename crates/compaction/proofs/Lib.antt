@@ -8,6 +8,7 @@ pub mod Nights
 pub mod Whole
 pub mod Joining
 pub mod Faithful
+pub mod Least
 pub mod Again
 pub mod Exactly
 pub mod Promises

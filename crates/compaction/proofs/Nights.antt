@@ -111,7 +111,8 @@ pub past-told : (s : List ℕ) (start budget : ℕ) (d : List ℕ) → length s 
     → (r ≡ share s (night s start (length d) budget)) × (d ≡ leaves s d (night s start (length d) budget))
 past-told s start budget d h e = rw (night-past s start (length d) budget h) (e, refl)
 
-pub short-told : (s : List ℕ) (start budget : ℕ) (d : List ℕ) → start ≤ length s → length d < budget → {r : Share} → r ≡ noShare BufferTooSmall
+pub short-told : (s : List ℕ) (start budget : ℕ) (d : List ℕ) → start ≤ length s → length d < budget
+    → {r : Share} → r ≡ noShare BufferTooSmall
     → (r ≡ share s (night s start (length d) budget)) × (d ≡ leaves s d (night s start (length d) budget))
 short-told s start budget d h k e = rw (night-short s start (length d) budget h k) (e, refl)
 

@@ -19,11 +19,13 @@ use Rattle.capture.proofs.Promises.{records-read-back}
 use Rattle.compaction.specs.Account.{entryOf, rewritten, size, entries, output, Account, account}
 use Rattle.compaction.specs.Share.{refuses, does, night, share, leaves}
 use Rattle.compaction.specs.Nights.{recordsIn, Nights}
-use Rattle.compaction.specs.Lossless.{Faithful}
+use Rattle.compaction.specs.Lossless.{StandAll, Faithful}
+use Rattle.compaction.specs.Shortest.{Shortest}
 use Rattle.compaction.proofs.Nights.{night-past, night-short, account-records}
 use Rattle.compaction.proofs.Joining.{does-is, does-splits, nights-start, nights-write, nights-account, one-share, one-left}
 use Rattle.compaction.proofs.Exactly.{account-written, spans, past-only, short-only, over-only, over-said, refusals-are}
-use Rattle.compaction.proofs.Faithful.{StandAll, stand-done, stand-all, hold-all, all-same, entries-back}
+use Rattle.compaction.proofs.Faithful.{stand-done, stand-all, hold-all, all-same, entries-back}
+use Rattle.compaction.proofs.Least.{all-least}
 use Rattle.compaction.proofs.Again.{settled, file-again}
 
 module _ (s : List ℕ) (start room budget : ℕ) where
@@ -81,8 +83,9 @@ module _ (s : List ℕ) (start room budget : ℕ) where
         let fit : length (output s ds) ≤ length dst = omega (arith, stops-exactly .1, d .roomy) in
         rw (e, account-written s a ds) (take-sets dst (output s ds) fit, drop-sets-past dst 0 (output s ds) (length (output s ds)) (omega arith))
 
-    -- 5. Nothing is lost. What is written, read from its front, passes nothing over and gives as many records as were done, in the same order and with the
-    -- same lines; the packet of each has the frames and the upper six TOC bits of the one it was made of, or its very bytes, where that cannot be read.
+    -- 5. Nothing is lost. The records done are those that stand in the capture, byte for byte. What is written, read from its front, passes nothing over
+    -- and gives as many records, in the same order and with the same lines; the packet of each has the frames and the upper six TOC bits of the one it was
+    -- made of, or its very bytes, where that cannot be read.
     module _ (bytes : Bytes s) where
       stand : StandAll s ds
       stand = let d = does-is s start room budget ds a e in rw (d .dones) (stand-done s bytes start (d .inside) budget)
@@ -91,13 +94,18 @@ module _ (s : List ℕ) (start room budget : ℕ) where
       holds = hold-all s bytes ds stand
 
       pub nothing-is-lost : let out = output s ds in
-          (readings out 0 ≡ answersFor 0 (entries out (recordsIn (readings out 0))))
+          StandAll s ds
+          × (readings out 0 ≡ answersFor 0 (entries out (recordsIn (readings out 0))))
           × Faithful (entries s ds) (entries out (recordsIn (readings out 0)))
       nothing-is-lost =
           let es = map rewritten (entries s ds) in
-          rw (entries-back es holds) (records-read-back es holds, all-same s bytes ds stand)
+          rw (entries-back es holds) (stand, records-read-back es holds, all-same s bytes ds stand)
 
-      -- 6. Compacting it again, with a budget that holds it, writes the same bytes, and reclaims and passes over nothing.
+      -- 6. Nor could it be shorter: no packet that says what the packet of a record done says is shorter than the one that is read back for it.
+      pub shortest-written : let out = output s ds in Shortest (entries s ds) (entries out (recordsIn (readings out 0)))
+      shortest-written = rw (entries-back (map rewritten (entries s ds)) holds) (all-least s bytes ds stand)
+
+      -- 7. Compacting it again, with a budget that holds it, writes the same bytes, and reclaims and passes over nothing.
       pub again-changes-nothing : let out = output s ds in
           (room′ budget′ : ℕ) → length out ≤ budget′ → budget′ ≤ room′ → let n = night out 0 room′ budget′ in
           (share out n
@@ -108,13 +116,13 @@ module _ (s : List ℕ) (start room budget : ℕ) where
           let count : length (map rewritten (entries s ds)) ≡ length ds = length-map (entries s ds) rewritten ∙ length-map ds (entryOf s) in
           (k .0 ∙ rw count, k .1)
 
-  -- 7. A refusal changes nothing, and beside it stand zeros.
+  -- 8. A refusal changes nothing, and beside it stand zeros.
   pub refused-changes-nothing : (e : Refusal) → night s start room budget ≡ refuses e
       → (share s (night s start room budget) ≡ record { verdict = Refused e; resume = 0; records = 0; written = 0; reclaimed = 0; passed = 0 })
       × ((dst : List ℕ) → leaves s dst (night s start room budget) ≡ dst)
   refused-changes-nothing e q = rw q (refl, λ dst. refl)
 
--- 8. Calls resumed until the end, none of them refused, write, joined, what one call with ample budget writes, and their accounts together are its account.
+-- 9. Calls resumed until the end, none of them refused, write, joined, what one call with ample budget writes, and their accounts together are its account.
 -- Each has a budget and a destination of its own.
 module _ (s : List ℕ) (start : ℕ) (out : List ℕ) (k : Account) (nights : Nights s start out k) where
   pub nights-are-one : (room budget : ℕ) → length out ≤ budget → budget ≤ room → let n = night s start room budget in
@@ -137,7 +145,8 @@ module _ (s : List ℕ) (start : ℕ) (out : List ℕ) (k : Account) (nights : N
       )
 
   -- So nothing is lost over all of them: every record of the capture from the start on is among those that are read back.
-  pub nights-lose-nothing : Bytes s → (readings out 0 ≡ answersFor 0 (entries out (recordsIn (readings out 0))))
+  pub nights-lose-nothing : Bytes s → StandAll s (recordsIn (readings s start))
+      × (readings out 0 ≡ answersFor 0 (entries out (recordsIn (readings out 0))))
       × Faithful (entries s (recordsIn (readings s start))) (entries out (recordsIn (readings out 0)))
   nights-lose-nothing bytes =
       let h = nights-start nights in
@@ -145,4 +154,4 @@ module _ (s : List ℕ) (start : ℕ) (out : List ℕ) (k : Account) (nights : N
       let stand = stand-all s bytes start h in
       let holds = hold-all s bytes ds stand in
       let es = map rewritten (entries s ds) in
-      rw (← nights-write nights, entries-back es holds) (records-read-back es holds, all-same s bytes ds stand)
+      rw (← nights-write nights, entries-back es holds) (stand, records-read-back es holds, all-same s bytes ds stand)

@@ -57,7 +57,8 @@ module _ (left : ℕ) (e : Entry) where
   put-headless h = put-none (omega (arith, size-written e))
 
 -- ---- by the spelling, in the room behind the head
-module _ (s : List ℕ) (bytes : Bytes s) (place n : ℕ) (is : n ≡ packetLength (drop place s)) (some : 1 ≤ n) (left room : ℕ) (head : left ≡ 5 + room) where
+module _ (s : List ℕ) (bytes : Bytes s) (place n : ℕ) (is : n ≡ packetLength (drop place s)) (some : 1 ≤ n)
+    (left room : ℕ) (head : left ≡ 5 + room) where
   abbrev p : List ℕ
   p = packetAt s place
 
@@ -129,8 +130,8 @@ abbrev pub Puts : List ℕ → ℕ → List ℕ → ℕ → ℕ → ℕ → List
 Puts s place d at budget r x =
     (r ≡ length (putOf (budget - at) (entryAt s place))) × (x ≡ sets d at (putOf (budget - at) (entryAt s place)))
 
-puts : (s : List ℕ) (place : ℕ) (d : List ℕ) (at budget : ℕ) (vs : List ℕ) → putOf (budget - at) (entryAt s place) ≡ vs → {r : ℕ} {x : List ℕ}
-    → r ≡ length vs → x ≡ sets d at vs → Puts s place d at budget r x
+puts : (s : List ℕ) (place : ℕ) (d : List ℕ) (at budget : ℕ) (vs : List ℕ) → putOf (budget - at) (entryAt s place) ≡ vs
+    → {r : ℕ} {x : List ℕ} → r ≡ length vs → x ≡ sets d at vs → Puts s place d at budget r x
 puts s place d at budget vs e a b = rw e (a, b)
 
 pub without-head : (s : List ℕ) (place : ℕ) (d : List ℕ) (at budget : ℕ) → budget - at < 5 → Puts s place d at budget 0 d

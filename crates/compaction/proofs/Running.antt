@@ -74,7 +74,8 @@ module _ {s : List ℕ} {at left end records n : ℕ} (g : Found s at left end r
       }
 
 -- ---- a record of code 0 or 1 at a place
-module _ (s : List ℕ) (bytes : Bytes s) (at : ℕ) (inside : at ≤ length s) (f : packetLength (drop at s) ≡ 0 → ⊥) (c : code (getD s (at + 5) 0) < 2) where
+module _ (s : List ℕ) (bytes : Bytes s) (at : ℕ) (inside : at ≤ length s)
+    (f : packetLength (drop at s) ≡ 0 → ⊥) (c : code (getD s (at + 5) 0) < 2) where
   stays : rewritten (entryAt s at) ≡ entryAt s at
   stays = rw (plain-stays (packetAt s at) 65535 (packet-bytes s at bytes) (rw (packet-first s at f) c))
 
@@ -105,8 +106,9 @@ module _ (s : List ℕ) (bytes : Bytes s) (at : ℕ) (inside : at ≤ length s) 
   behind-is = omega (arith, found-next s at next-is-one .next, here, length-is)
 
 -- ---- all of them
-moved : {s : List ℕ} {start budget : ℕ} {d x : List ℕ} {at at′ records records′ put put′ passed passed′ : ℕ} → at ≡ at′ → records ≡ records′
-    → put ≡ put′ → passed ≡ passed′ → Going s start budget d x at records put passed → Going s start budget d x at′ records′ put′ passed′
+moved : {s : List ℕ} {start budget : ℕ} {d x : List ℕ} {at at′ records records′ put put′ passed passed′ : ℕ}
+    → at ≡ at′ → records ≡ records′ → put ≡ put′ → passed ≡ passed′
+    → Going s start budget d x at records put passed → Going s start budget d x at′ records′ put′ passed′
 moved a b c e g = rw (← a, ← b, ← c, ← e) g
 
 module _ {s : List ℕ} {start budget : ℕ} {d x : List ℕ} {at records put passed : ℕ} (bytes : Bytes s)
@@ -127,7 +129,8 @@ module _ {s : List ℕ} {start budget : ℕ} {d x : List ℕ} {at records put pa
       let sum : end + 5 + n - at ≡ end - at + (5 + n) = omega (arith, within .0) in
       let place : at + (end - at) ≡ end = omega (arith, within .0) in
       let long : length (part s at (end - at)) ≡ end - at = length-part s at (end - at) (omega (arith, within)) in
-      let joined : sets x put (part s at (end + 5 + n - at)) ≡ sets (sets x put (part s at (end - at))) (put + (end - at)) (written (rewritten (entryOf s a))) =
+      let joined : sets x put (part s at (end + 5 + n - at))
+      ≡ sets (sets x put (part s at (end - at))) (put + (end - at)) (written (rewritten (entryOf s a))) =
       rw (sum, part-append s at (end - at) (5 + n), place, sets-append, long, one) in
       let fit : size s a ≤ budget - (put + (end - at)) = omega (arith, within .0) in
       let next = next-is-one s bytes end (within .1) f c in

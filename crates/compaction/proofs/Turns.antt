@@ -66,7 +66,8 @@ module _ {s : List ℕ} {start budget : ℕ} {d x : List ℕ} {at records put pa
         (λ t. let h = ltb-false (budget - put) (size s a) t in
         absurd (omega (arith, n, ap length (one-all h), size-written (entryOf s a))))
 
-    put-one : (a .length ≡ 0 → ⊥) → (k ≡ 0 → ⊥) → Going s start budget d y (a .place + 5 + a .length) (records + 1) (put + k) (passed + a .passed)
+    put-one : (a .length ≡ 0 → ⊥) → (k ≡ 0 → ⊥)
+        → Going s start budget d y (a .place + 5 + a .length) (records + 1) (put + k) (passed + a .passed)
     put-one f some =
         by-test (ltb (budget - put) (size s a))
         (λ t. absurd (some (n ∙ ap length (one-none (ltb-true (budget - put) (size s a) t)))))
@@ -108,5 +109,6 @@ module _ {s : List ℕ} {start budget : ℕ} {d x : List ℕ} {at records put pa
       pub nothing-put : k ≡ 0 → Stops r y
       nothing-put = rw is (none-put k count y laid)
 
-      pub one-put : (r .length ≡ 0 → ⊥) → (k ≡ 0 → ⊥) → Going s start budget d y (r .place + 5 + r .length) (records + 1) (put + k) (passed + r .passed)
+      pub one-put : (r .length ≡ 0 → ⊥) → (k ≡ 0 → ⊥)
+          → Going s start budget d y (r .place + 5 + r .length) (records + 1) (put + k) (passed + r .passed)
       one-put = rw is (put-one k count y laid)

@@ -17,7 +17,8 @@ use Rattle.laws.proofs.Never.{never, by-test}
 use Rattle.opus_defines.specs.Numbers.{refusalReport, refusalNumber}
 use Rattle.opus_defines.specs.declared.Rule.{Rule}
 use Rattle.opus_defines.specs.declared.Refusal.{Refusal}
-use Rattle.opus_defines.specs.declared.Refusal.the-variants.{BadArg, BufferTooSmall, InvalidPacket, InvalidState, Unreadable, CutShort, DirtyPadding, OverBudget}
+use Rattle.opus_defines.specs.declared.Refusal.the-variants.{BadArg, BufferTooSmall, InvalidPacket, InvalidState}
+use Rattle.opus_defines.specs.declared.Refusal.the-variants.{Unreadable, CutShort, DirtyPadding, OverBudget}
 
 -- a number that is not among the keys of an arm, by computation, is none of them
 pub not-among : (ks : List ℕ) (x : ℕ) → hasKey ks x ≡ false → OneOf ks x → ⊥

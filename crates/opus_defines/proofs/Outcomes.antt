@@ -13,7 +13,8 @@ use Rattle.opus_defines.specs.Numbers.{refusalNumber}
 use Rattle.opus_defines.specs.Rules.{ruleRefusal}
 use Rattle.opus_defines.specs.Outcome.{Effect, refusal, wrote, Outcome, leaves}
 use Rattle.opus_defines.specs.declared.Refusal.{Refusal}
-use Rattle.opus_defines.specs.declared.Refusal.the-variants.{BadArg, BufferTooSmall, InvalidPacket, InvalidState, Unreadable, CutShort, DirtyPadding, OverBudget}
+use Rattle.opus_defines.specs.declared.Refusal.the-variants.{BadArg, BufferTooSmall, InvalidPacket, InvalidState}
+use Rattle.opus_defines.specs.declared.Refusal.the-variants.{Unreadable, CutShort, DirtyPadding, OverBudget}
 use Rattle.opus_defines.specs.declared.Rule.{Rule}
 use Rattle.opus_defines.specs.declared.Report.{Report}
 

@@ -1,7 +1,8 @@
 -- What a call answers that was given a packet which breaks a rule of RFC 6716, section 3.4: the one place where a rule becomes a refusal.
 use Prim.Native.Nat.{ℕ, _+_}
 use Rattle.opus_defines.specs.declared.Refusal.{Refusal}
-use Rattle.opus_defines.specs.declared.Refusal.the-variants.{BadArg, BufferTooSmall, InvalidPacket, InvalidState, Unreadable, CutShort, DirtyPadding, OverBudget}
+use Rattle.opus_defines.specs.declared.Refusal.the-variants.{BadArg, BufferTooSmall, InvalidPacket, InvalidState}
+use Rattle.opus_defines.specs.declared.Refusal.the-variants.{Unreadable, CutShort, DirtyPadding, OverBudget}
 use Rattle.opus_defines.specs.declared.Rule.{Rule}
 
 -- the place is that of the first byte of the field concerned, from the front of the packet

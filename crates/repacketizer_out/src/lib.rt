@@ -145,7 +145,8 @@ fn out_answer(
         ≡ outRange «self_delimited» pad (collectorOf h (now (len .entry)) (now (packet .entry))) (now (store .entry)) begin end (now («data» .entry))
         .report .number ⌝ }
     ensures bytes { λ _. ⌜ now («data» .exit)
-        ≡ outRange «self_delimited» pad (collectorOf h (now (len .entry)) (now (packet .entry))) (now (store .entry)) begin end (now («data» .entry)) .bytes ⌝ }
+        ≡ outRange «self_delimited» pad (collectorOf h (now (len .entry)) (now (packet .entry)))
+        (now (store .entry)) begin end (now («data» .entry)) .bytes ⌝ }
 {
     let c = repacketizer::check(h, len, packet);
     if !c.sound {
@@ -182,7 +183,8 @@ pub fn out_lent(
         ≡ outRange «self_delimited» pad (collectorOf h (now (len .entry)) (now (packet .entry))) (now (store .entry)) begin end (now («data» .entry))
         .report .number ⌝ }
     ensures bytes { λ _. ⌜ now («data» .exit)
-        ≡ outRange «self_delimited» pad (collectorOf h (now (len .entry)) (now (packet .entry))) (now (store .entry)) begin end (now («data» .entry)) .bytes ⌝ }
+        ≡ outRange «self_delimited» pad (collectorOf h (now (len .entry)) (now (packet .entry)))
+        (now (store .entry)) begin end (now («data» .entry)) .bytes ⌝ }
 {
     opus_defines::number_of(out_answer(
         h,

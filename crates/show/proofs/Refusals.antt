@@ -10,7 +10,8 @@ use mir.Val.{toZ, ofZ, SFits}
 use mir.ValLaws.{toZ-ofZ}
 use Rattle.opus_defines.specs.Numbers.{refusalNumber}
 use Rattle.opus_defines.specs.declared.Refusal.{Refusal}
-use Rattle.opus_defines.specs.declared.Refusal.the-variants.{BadArg, BufferTooSmall, InvalidPacket, InvalidState, Unreadable, CutShort, DirtyPadding, OverBudget}
+use Rattle.opus_defines.specs.declared.Refusal.the-variants.{BadArg, BufferTooSmall, InvalidPacket, InvalidState}
+use Rattle.opus_defines.specs.declared.Refusal.the-variants.{Unreadable, CutShort, DirtyPadding, OverBudget}
 use Rattle.show.specs.Text.{decimal, integer, refusedLabel, refusal}
 use Rattle.show.proofs.Laid.{Three, front-room}
 use Rattle.show.proofs.Digits.{decimal-most}

@@ -17,7 +17,8 @@ use Rattle.spelling.specs.declared.Spelling.the-variants.{Original, Comp
 abbrev two : List ℕ
 two = 0x03 ∷ 0x02 ∷ 0xaa ∷ 0xbb ∷ []
 
-pub by-room : (map (shorter two) (3 ∷ 2 ∷ []) ≡ (0x01 ∷ 0xaa ∷ 0xbb ∷ []) ∷ two ∷ []) × (map (spelling two) (3 ∷ 2 ∷ []) ≡ Compact 3 ∷ Original ∷ [])
+pub by-room : (map (shorter two) (3 ∷ 2 ∷ []) ≡ (0x01 ∷ 0xaa ∷ 0xbb ∷ []) ∷ two ∷ [])
+    × (map (spelling two) (3 ∷ 2 ∷ []) ≡ Compact 3 ∷ Original ∷ [])
 unfolding shorter spelling compactOf unpadPacket read duration compact header lengthField
 by-room = (refl, refl)
 
@@ -31,7 +32,8 @@ work-buffers = refl
 
 -- two equal frames as code 2; one frame with a padding byte, which is not zero; three equal frames with a length each
 pub shortened : map (λ (p : List ℕ). shorter p 9)
-    ((0x02 ∷ 0x01 ∷ 0xaa ∷ 0xbb ∷ []) ∷ (0x03 ∷ 0x41 ∷ 0x01 ∷ 0xaa ∷ 0x07 ∷ []) ∷ (0x03 ∷ 0x83 ∷ 0x01 ∷ 0x01 ∷ 0xaa ∷ 0xbb ∷ 0xcc ∷ []) ∷ [])
+    ((0x02 ∷ 0x01 ∷ 0xaa ∷ 0xbb ∷ []) ∷ (0x03 ∷ 0x41 ∷ 0x01 ∷ 0xaa ∷ 0x07 ∷ [])
+    ∷ (0x03 ∷ 0x83 ∷ 0x01 ∷ 0x01 ∷ 0xaa ∷ 0xbb ∷ 0xcc ∷ []) ∷ [])
     ≡ (0x01 ∷ 0xaa ∷ 0xbb ∷ []) ∷ (0x00 ∷ 0xaa ∷ []) ∷ (0x03 ∷ 0x03 ∷ 0xaa ∷ 0xbb ∷ 0xcc ∷ []) ∷ []
 unfolding shorter spelling compactOf unpadPacket read duration compact header lengthField
 shortened = refl

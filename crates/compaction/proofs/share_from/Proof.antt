@@ -93,7 +93,8 @@ module _ (c : tie.After-struct-known3 Inv-loop μ-loop) where
   moves : let r = c .before .next-record .result in
       let l = here .loop in
       let a = entry here .args in
-      (l .passed + r .passed ≤ length (a .«data» .now)) × (a .start + l .written + (l .passed + r .passed) ≤ r .place) × (r .place ≤ length (a .«data» .now))
+      (l .passed + r .passed ≤ length (a .«data» .now)) × (a .start + l .written + (l .passed + r .passed) ≤ r .place)
+      × (r .place ≤ length (a .«data» .now))
   moves = let r = c .before .next-record in advanced (here .loop .inv) (r .result) (r .ensures)
 
 add-passed : tie.Need-add-passed Inv-loop μ-loop
