@@ -11,5 +11,7 @@ pub mod Once
 pub mod Apart
 pub mod Resuming
 pub mod ReadBack
+pub mod Shifted
+pub mod Held
 pub mod Promises
 mod Examples

@@ -3,13 +3,13 @@
 use Prim.Native.Nat.{ℕ, zero, suc, _+_, _-_, _<_, _≤_}
 use mathlib.Core.Path.{_≡_}
 use mathlib.Core.Logic.{_⊎_}
-use mathlib.Core.List.{List, [], _∷_, _++_}
+use mathlib.Core.List.{List, [], _∷_, _++_, map}
 use mathlib.Core.Bool.{cond}
 use lib.Dec.{eqb, leb, ltb}
 use lib.ListN.{length, take, drop}
 use Rattle.opus_defines.specs.declared.Verdict.the-variants.{Accepted}
 use Rattle.capture.specs.Records.{Entry, headBytes}
-use Rattle.capture.specs.Finding.{nextRecord}
+use Rattle.capture.specs.Finding.{packetAt, nextRecord}
 use Rattle.capture.specs.declared.NextRecord.{NextRecord}
 
 -- the bytes of an answer's record, its head among them; 0 where there is none
@@ -41,6 +41,32 @@ readings s at = readingsIn (length s) s at
 abbrev pub Among : NextRecord → List NextRecord → Type 0
 Among a [] = ⊥
 Among a (b ∷ more) = (a ≡ b) ⊎ Among a more
+
+-- ---- the records themselves
+-- the record of an answer, in the capture s
+abbrev pub entryOf : List ℕ → NextRecord → Entry
+entryOf s a = record { line = a .line; packet = packetAt s (a .place) }
+
+-- the records of answers
+abbrev pub entries : List ℕ → List NextRecord → List Entry
+entries s answers = map (entryOf s) answers
+
+-- the records among answers: the last answer of a reading says that there is none
+unfoldable pub recordsIn : List NextRecord → List NextRecord
+recordsIn [] = []
+recordsIn (a ∷ more) = cond (eqb (a .length) 0) (recordsIn more) (a ∷ recordsIn more)
+
+-- the records of a capture, in order
+unfoldable pub recordsOf : List ℕ → List Entry
+recordsOf s = entries s (recordsIn (readings s 0))
+
+-- the bytes that answers pass over, and those of a capture that belong to no record
+unfoldable pub passedIn : List NextRecord → ℕ
+passedIn [] = 0
+passedIn (a ∷ more) = a .passed + passedIn more
+
+unfoldable pub passedOf : List ℕ → ℕ
+passedOf s = passedIn (readings s 0)
 
 -- ---- each byte
 -- the bytes that an answer passes over and those of its record

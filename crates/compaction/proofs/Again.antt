@@ -11,16 +11,15 @@ use lib.Seq.{sets}
 use Rattle.laws.specs.Bytes.{Bytes}
 use Rattle.opus_defines.specs.declared.Verdict.the-variants.{Accepted}
 use Rattle.capture.specs.Records.{Entry, written, fileOf, HoldAll}
-use Rattle.capture.specs.Reading.{readings, answersFor}
+use Rattle.capture.specs.Reading.{readings, answersFor, entryOf, entries, recordsIn}
 use Rattle.capture.specs.declared.NextRecord.{NextRecord}
 use Rattle.capture.proofs.Packets.{packet-bytes}
 use Rattle.capture.proofs.Files.{file-none, file-one, answers-none, answers-one}
 use Rattle.capture.proofs.Written.{written-length}
 use Rattle.capture.proofs.Promises.{records-read-back}
 use Rattle.spelling.proofs.Laws.{again}
-use Rattle.compaction.specs.Account.{entryOf, rewritten, size, entries, output}
+use Rattle.compaction.specs.Account.{rewritten, size, output}
 use Rattle.compaction.specs.Share.{night, share, leaves}
-use Rattle.compaction.specs.Nights.{recordsIn}
 use Rattle.compaction.proofs.Going.{same-account}
 use Rattle.compaction.proofs.Whole.{whole, whole-end, whole-none, whole-one}
 use Rattle.compaction.proofs.Joining.{one-share, one-left}

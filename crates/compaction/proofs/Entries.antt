@@ -1,7 +1,7 @@
 -- The record that stands at a place of a capture, and the record of an answer.
 --     stands-length, stands-holds, stands-written     its packet, and its bytes
 --     size-written, size-most                         how long it is when it is rewritten
---     answer-entry, next-size                         the same of an answer of reading
+--     answer-entry, next-length, next-size            the same of an answer of reading
 -- Assumes nothing.
 use Prim.Native.Nat.{ℕ, _+_, _≤_}
 use native.Mathlib.Omega.{arith}
@@ -12,13 +12,14 @@ use lib.Seq.{getD-drop, take-append-seam}
 use Rattle.laws.specs.Bytes.{Bytes}
 use Rattle.laws.proofs.Bytes.{bytes-drop}
 use Rattle.blocks.specs.Blocks.{part}
+use Rattle.capture.specs.Reading.{entryOf}
 use Rattle.capture.specs.Records.{Entry, Holds, written}
 use Rattle.capture.specs.Finding.{packetLength, packetAt, nextRecord}
 use Rattle.capture.proofs.Packets.{packet-front}
 use Rattle.capture.proofs.Written.{entryIn, written-length, found-length, found-holds, found-written}
 use Rattle.capture.proofs.Answers.{next-line, next-stands}
 use Rattle.spelling.proofs.Laws.{no-longer}
-use Rattle.compaction.specs.Account.{entryOf, rewritten, size}
+use Rattle.compaction.specs.Account.{rewritten, size}
 use Rattle.compaction.specs.Parts.{entryAt}
 
 entry-in : (s : List ℕ) (at : ℕ) → entryAt s at ≡ entryIn (drop at s)
@@ -52,7 +53,7 @@ module _ (s : List ℕ) (at : ℕ) (inside : at ≤ length s) where
   pub answer-entry : entryOf s (nextRecord s at) ≡ entryAt s (nextRecord s at .place)
   answer-entry = rw (next-line s at inside)
 
-  next-length : (nextRecord s at .length ≡ 0 → ⊥) → length (packetAt s (nextRecord s at .place)) ≡ nextRecord s at .length
+  pub next-length : (nextRecord s at .length ≡ 0 → ⊥) → length (packetAt s (nextRecord s at .place)) ≡ nextRecord s at .length
   next-length f = stands-length s (nextRecord s at .place) (λ z. f (next-stands s at inside ∙ z)) ∙ sym (next-stands s at inside)
 
   pub next-size : (nextRecord s at .length ≡ 0 → ⊥) → size s (nextRecord s at) ≤ 5 + nextRecord s at .length

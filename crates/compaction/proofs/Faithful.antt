@@ -18,23 +18,23 @@ use Rattle.opus_format.specs.Frames.{lengths, cut}
 use Rattle.opus_format.specs.Reading.{Reading, refused, accepted, read}
 use Rattle.capture.specs.Records.{Entry, Holds, written, fileOf, HoldAll}
 use Rattle.capture.specs.Finding.{packetLength, packetAt, nextRecord}
-use Rattle.capture.specs.Reading.{behind, readings, answersFor}
+use Rattle.capture.specs.Reading.{behind, readings, answersFor, entryOf, entries, recordsIn}
 use Rattle.capture.specs.declared.NextRecord.{NextRecord}
 use Rattle.capture.proofs.Packets.{packet-front, packet-bytes}
 use Rattle.capture.proofs.Files.{file-one, answers-none, answers-one}
 use Rattle.capture.proofs.Written.{written-length, written-packet}
 use Rattle.capture.proofs.Answers.{next-stands}
 use Rattle.capture.proofs.Steps.{reading-induction}
+use Rattle.capture.proofs.Held.{records-none, records-one, records-end}
 use Rattle.capture.proofs.Promises.{records-read-back}
 use Rattle.packet_pad.proofs.Spelled.{reading, cuts-back, reads-back}
 use Rattle.spelling.proofs.Laws.{no-longer, not-empty}
 use Rattle.spelling.proofs.Promises.{unreadable-stays, same-frames}
-use Rattle.compaction.specs.Account.{entryOf, rewritten, entries}
+use Rattle.compaction.specs.Account.{rewritten}
 use Rattle.compaction.specs.Share.{done, stop}
-use Rattle.compaction.specs.Nights.{recordsIn}
 use Rattle.compaction.specs.Lossless.{StandAll, Same, alike, kept, Faithful, none, one}
 use Rattle.compaction.proofs.Entries.{stands-holds, stands-written, answer-entry}
-use Rattle.compaction.proofs.Whole.{records-none, records-one, records-end, records-done}
+use Rattle.compaction.proofs.Whole.{records-done}
 use Rattle.compaction.proofs.Joining.{later, answers}
 
 -- ---- one record

@@ -15,11 +15,11 @@ use lib.Seq.{sets, length-sets}
 use Rattle.blocks.proofs.Sets.{sets-append}
 use Rattle.capture.specs.Records.{written}
 use Rattle.capture.specs.Finding.{nextRecord}
-use Rattle.capture.specs.Reading.{behind, readings}
+use Rattle.capture.specs.Reading.{behind, readings, entryOf, entries}
 use Rattle.capture.specs.declared.NextRecord.{NextRecord}
 use Rattle.capture.proofs.Files.{file-none, file-one}
 use Rattle.capture.proofs.Answers.{found, next-place, next-passed, next-within, next-moves}
-use Rattle.compaction.specs.Account.{entryOf, rewritten, size, entries, output, Account, counting, account}
+use Rattle.compaction.specs.Account.{rewritten, size, output, Account, counting, account}
 use Rattle.compaction.specs.Share.{fits, done, stop, accounted}
 use Rattle.compaction.specs.Parts.{stopsAt}
 use Rattle.compaction.proofs.Entries.{size-written, next-size}

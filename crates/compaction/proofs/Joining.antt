@@ -3,7 +3,7 @@
 --     answers, does-splits   the answers are those done, the one at which it stops, and more
 --     resumed                the answers from its resume place on
 --     nights-write, nights-account, nights-start
---     one-night, one-share, one-left     a call with ample budget
+--     one-night, one-share, one-left     a call with ample budget; all-fit, how much that is
 -- Assumes nothing.
 use Prim.Native.Nat.{ℕ, _+_, _≤_}
 use native.Mathlib.Omega.{arith}
@@ -15,19 +15,21 @@ use lib.Seq.{sets}
 use borrow.Author.Tests.{eqb-true, eqb-false, ltb-true, ltb-false}
 use Rattle.laws.proofs.Never.{by-test, never}
 use Rattle.capture.specs.Finding.{nextRecord}
-use Rattle.capture.specs.Reading.{readings}
+use Rattle.capture.specs.Reading.{readings, recordsIn}
 use Rattle.capture.specs.declared.NextRecord.{NextRecord}
 use Rattle.capture.proofs.Answers.{seenFrom, end-passes-none, none-behind}
 use Rattle.capture.proofs.Steps.{readings-end}
 use Rattle.capture.proofs.Resuming.{splits-before}
+use Rattle.capture.proofs.Held.{records-none, records-one, records-end}
 use Rattle.compaction.specs.Account.{output, Account, account}
 use Rattle.opus_defines.specs.declared.Verdict.the-variants.{Accepted}
 use Rattle.compaction.specs.Share.{done, stop, does, stopping, night, share, leaves}
-use Rattle.compaction.specs.Nights.{recordsIn, together, Nights, over, next}
+use Rattle.compaction.specs.Nights.{together, Nights, over, next}
 use Rattle.compaction.proofs.Nights.{done-splits, stop-splits, stop-is-end, night-past, night-short, night-within}
 use Rattle.compaction.proofs.Nights.{stopping-some, stopping-end, stopping-over}
 use Rattle.compaction.proofs.Going.{output-none}
-use Rattle.compaction.proofs.Whole.{records-none, records-one, records-end, records-done, output-append}
+use Rattle.compaction.proofs.Exactly.{account-written, spans}
+use Rattle.compaction.proofs.Whole.{records-done, output-append}
 use Rattle.compaction.proofs.Whole.{whole, whole-end, whole-none, whole-split, Ample, ample}
 
 -- ---- a call that is not refused
@@ -177,3 +179,17 @@ module _ (s : List ℕ) (start room budget : ℕ) (h : start ≤ length s) (k : 
 
   pub one-left : (dst : List ℕ) → leaves s dst (night s start room budget) ≡ sets dst 0 (output s (recordsIn (readings s start)))
   one-left dst = rw one-night
+
+-- what is written is no longer than what was read
+pub all-fit : (s : List ℕ) (start : ℕ) → start ≤ length s → start + length (output s (recordsIn (readings s start))) ≤ length s
+all-fit s start h =
+    let r = readings s start in
+    let b = length (output s (recordsIn r)) in
+    let a : Ample s b r = ample s start h b (omega arith) in
+    omega (
+      arith,
+      stop-is-end s start b h (a .stopped),
+      spans s start h b .reached,
+      account-written s (stop s b r) (done s b r),
+      ap (λ (l : List NextRecord). length (output s l)) (a .dones),
+    )

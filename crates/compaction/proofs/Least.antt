@@ -10,13 +10,14 @@ use Rattle.opus_defines.specs.Bounds.{mostPacket}
 use Rattle.opus_toc.specs.Toc.{upperSix}
 use Rattle.opus_format.specs.Frames.{cut}
 use Rattle.opus_format.specs.Format.{Spells}
+use Rattle.capture.specs.Reading.{entries}
 use Rattle.capture.specs.declared.NextRecord.{NextRecord}
 use Rattle.capture.proofs.Packets.{packet-bytes}
 use Rattle.packet_pad.proofs.Spelled.{read-whole}
 use Rattle.spelling.specs.Spelling.{shorter}
 use Rattle.spelling.proofs.Laws.{no-longer}
 use Rattle.spelling.proofs.Promises.{shortest-there-is}
-use Rattle.compaction.specs.Account.{rewritten, entries}
+use Rattle.compaction.specs.Account.{rewritten}
 use Rattle.compaction.specs.Lossless.{StandAll, Same, alike, kept}
 use Rattle.compaction.specs.Shortest.{Shortest, no-more, each}
 

@@ -13,12 +13,12 @@ use Rattle.opus_defines.specs.declared.Refusal.the-variants.{BadArg, BufferTooS
 use Rattle.opus_defines.specs.declared.Verdict.the-variants.{Accepted, Refused}
 use Rattle.capture.specs.Records.{HoldAll}
 use Rattle.capture.specs.Finding.{nextRecord}
-use Rattle.capture.specs.Reading.{readings, answersFor}
+use Rattle.capture.specs.Reading.{readings, answersFor, entryOf, entries, recordsIn}
 use Rattle.capture.specs.declared.NextRecord.{NextRecord}
 use Rattle.capture.proofs.Promises.{records-read-back}
-use Rattle.compaction.specs.Account.{entryOf, rewritten, size, entries, output, Account, account}
+use Rattle.compaction.specs.Account.{rewritten, size, output, Account, account}
 use Rattle.compaction.specs.Share.{refuses, does, night, share, leaves}
-use Rattle.compaction.specs.Nights.{recordsIn, Nights}
+use Rattle.compaction.specs.Nights.{Nights}
 use Rattle.compaction.specs.Lossless.{StandAll, Faithful}
 use Rattle.compaction.specs.Shortest.{Shortest}
 use Rattle.compaction.proofs.Nights.{night-past, night-short, account-records}

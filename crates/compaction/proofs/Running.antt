@@ -15,12 +15,12 @@ use Rattle.blocks.proofs.Sets.{sets-append, part-append, length-part}
 use Rattle.opus_toc.specs.Toc.{code}
 use Rattle.capture.specs.Records.{Entry, written}
 use Rattle.capture.specs.Finding.{packetLength, packetAt, nextRecord}
-use Rattle.capture.specs.Reading.{behind}
+use Rattle.capture.specs.Reading.{behind, entryOf}
 use Rattle.capture.proofs.Laws.{before-here, within}
 use Rattle.capture.proofs.Packets.{packet-bytes, packet-first}
 use Rattle.capture.proofs.Answers.{found as found-next, next-place, next-passed, next-stands}
 use Rattle.spelling.proofs.Laws.{plain-stays}
-use Rattle.compaction.specs.Account.{entryOf, rewritten, size}
+use Rattle.compaction.specs.Account.{rewritten, size}
 use Rattle.compaction.specs.Parts.{entryAt, Runs, none, more}
 use Rattle.compaction.proofs.Entries.{stands-length, stands-written, answer-entry}
 use Rattle.compaction.proofs.Going.{Going, taken}

@@ -15,10 +15,10 @@ use borrow.Author.Tests.{ltb-true, ltb-false}
 use Rattle.laws.proofs.Never.{by-test}
 use Rattle.capture.specs.Records.{Entry, written}
 use Rattle.capture.specs.Finding.{packetLength, nextRecord}
-use Rattle.capture.specs.Reading.{behind, readings}
+use Rattle.capture.specs.Reading.{behind, readings, entryOf}
 use Rattle.capture.specs.declared.NextRecord.{NextRecord}
 use Rattle.capture.proofs.Answers.{found, next-place, next-passed, next-place-le, next-stands}
-use Rattle.compaction.specs.Account.{entryOf, rewritten, size, output, account}
+use Rattle.compaction.specs.Account.{rewritten, size, output, account}
 use Rattle.compaction.specs.Share.{done, stop, accounted}
 use Rattle.compaction.specs.Parts.{entryAt, putOf, stopsAt}
 use Rattle.compaction.proofs.Entries.{size-written, answer-entry}

@@ -1,5 +1,5 @@
 -- All records of a reading: what is written for them, their account, and that a call with ample budget does them all.
---     records-none, records-one, records-done     the records among answers
+--     records-done                                the records among answers
 --     output-append                               what is written for two runs of records
 --     whole, whole-split                          the account of all answers, and of those behind a stop
 --     ample-done, ample-stop, ample-account       a call whose budget holds all that is to be written
@@ -15,31 +15,19 @@ use borrow.Author.Tests.{eq-eqb, ne-eqb, eqb-true, eqb-false}
 use Rattle.laws.proofs.Never.{by-test, never}
 use Rattle.capture.specs.Records.{written}
 use Rattle.capture.specs.Finding.{nextRecord}
-use Rattle.capture.specs.Reading.{behind, readings}
+use Rattle.capture.specs.Reading.{behind, readings, entryOf, recordsIn}
 use Rattle.capture.specs.declared.NextRecord.{NextRecord}
 use Rattle.capture.proofs.Answers.{seenFrom}
 use Rattle.capture.proofs.Steps.{reading-induction}
-use Rattle.compaction.specs.Account.{entryOf, rewritten, size, output, Account, counting, account}
+use Rattle.capture.proofs.Held.{records-none, records-one, records-end}
+use Rattle.compaction.specs.Account.{rewritten, size, output, Account, counting, account}
 use Rattle.compaction.specs.Share.{fits, done, stop}
-use Rattle.compaction.specs.Nights.{recordsIn, together}
+use Rattle.compaction.specs.Nights.{together}
 use Rattle.compaction.proofs.Entries.{size-written}
 use Rattle.compaction.proofs.Steps.{none-fits, some-fits, stops-here, goes-on}
 use Rattle.compaction.proofs.Going.{adding, same-account, output-none, output-one}
 
 -- ---- the records among answers
-module _ (a : NextRecord) (more : List NextRecord) where
-  pub records-none : a .length ≡ 0 → recordsIn (a ∷ more) ≡ recordsIn more
-  unfolding recordsIn
-  records-none z = rw (eq-eqb (a .length) 0 z)
-
-  pub records-one : (a .length ≡ 0 → ⊥) → recordsIn (a ∷ more) ≡ a ∷ recordsIn more
-  unfolding recordsIn
-  records-one f = rw (ne-eqb (a .length) 0 f)
-
-pub records-end : recordsIn [] ≡ []
-unfolding recordsIn
-records-end = refl
-
 -- what fits is a record
 pub fits-some : (s : List ℕ) (b : ℕ) (a : NextRecord) → fits s b a ≡ true → a .length ≡ 0 → ⊥
 fits-some s b a t z = never (let n = none-fits s b a z in cc)

@@ -4,13 +4,9 @@ use mathlib.Core.List.{List, [], _∷_, map}
 use lib.ListN.{length}
 use Rattle.opus_defines.specs.Bounds.{mostPacket}
 use Rattle.capture.specs.Records.{Entry, headBytes, written, fileOf}
-use Rattle.capture.specs.Finding.{packetAt}
+use Rattle.capture.specs.Reading.{entryOf, entries}
 use Rattle.capture.specs.declared.NextRecord.{NextRecord}
 use Rattle.spelling.specs.Spelling.{shorter}
-
--- the record of an answer, in the capture s
-abbrev pub entryOf : List ℕ → NextRecord → Entry
-entryOf s a = record { line = a .line; packet = packetAt s (a .place) }
 
 -- a record with its packet in the shorter spelling, which has 65,535 bytes of work room
 abbrev pub rewritten : Entry → Entry
@@ -19,10 +15,6 @@ rewritten e = record { line = e .line; packet = shorter (e .packet) mostPacket }
 -- the bytes of an answer's record when it is rewritten
 abbrev pub size : List ℕ → NextRecord → ℕ
 size s a = headBytes + length (rewritten (entryOf s a) .packet)
-
--- the records of answers
-abbrev pub entries : List ℕ → List NextRecord → List Entry
-entries s answers = map (entryOf s) answers
 
 -- what is written for the records done: each rewritten, one behind another
 abbrev pub output : List ℕ → List NextRecord → List ℕ

@@ -10,8 +10,8 @@ use Rattle.opus_toc.specs.Toc.{upperSix}
 use Rattle.opus_format.specs.Frames.{cut}
 use Rattle.opus_format.specs.Reading.{refused, accepted, read}
 use Rattle.capture.specs.Records.{Entry, Holds, headBytes, written}
+use Rattle.capture.specs.Reading.{entryOf}
 use Rattle.capture.specs.declared.NextRecord.{NextRecord}
-use Rattle.compaction.specs.Account.{entryOf}
 
 -- the record of each answer has 1 to 65,535 bytes of packet, and is what stands in the capture at the answer's place, byte for byte
 abbrev pub StandAll : List ℕ → List NextRecord → Type 0

@@ -1,18 +1,11 @@
 -- Calls made one after another, each resumed where the one before stopped (document 02, M-103).
 use Prim.Native.Nat.{ℕ, _+_}
 use mathlib.Core.Path.{_≡_}
-use mathlib.Core.List.{List, [], _∷_, _++_}
-use mathlib.Core.Bool.{cond}
-use lib.Dec.{eqb}
+use mathlib.Core.List.{List, [], _++_}
 use lib.ListN.{length}
 use Rattle.capture.specs.declared.NextRecord.{NextRecord}
 use Rattle.compaction.specs.Account.{output, Account, account}
 use Rattle.compaction.specs.Share.{does, night}
-
--- the records among answers: the last answer of a reading says that there is none
-unfoldable pub recordsIn : List NextRecord → List NextRecord
-recordsIn [] = []
-recordsIn (a ∷ more) = cond (eqb (a .length) 0) (recordsIn more) (a ∷ recordsIn more)
 
 -- two accounts together
 abbrev pub together : Account → Account → Account

@@ -107,7 +107,7 @@ fn run_from(data: &[u8], at: usize, left: usize) -> Run
 }
 
 // A share from a place that is not past the end, into a destination that holds the budget; no record done is no refusal here.
-fn share_from(data: &[u8], start: usize, dst: &mut [u8], budget: usize) -> Share
+pub fn share_from(data: &[u8], start: usize, dst: &mut [u8], budget: usize) -> Share
     requires { ⌜ (start ≤ length (now «data»)) × (budget ≤ length (now dst)) ⌝ }
     ensures answer { λ r. ⌜ r
         ≡ accounted (stop (now («data» .entry)) budget (readings (now («data» .entry)) start))

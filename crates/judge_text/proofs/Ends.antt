@@ -21,9 +21,9 @@ use Rattle.captures_text.specs.Lines.{mostCapture}
 use Rattle.show.specs.Text.{refusal}
 use Rattle.show.proofs.Laid.{Laid, front-counts, front-laid, laid-then}
 use Rattle.show.proofs.Refusals.{refusal-most}
-use Rattle.judge_text.specs.Tallies.{none}
+use Rattle.packet_judge.specs.Tallies.{none}
 use Rattle.judge_text.specs.Text.{totals, partMost, Part, stop, over, thenText, linesIn, ending, closed, partFrom, linesOf}
-use Rattle.judge_text.specs.declared.Tally.{Tally}
+use Rattle.packet_judge.specs.declared.Tally.{Tally}
 use Rattle.judge_text.specs.declared.Lines.{Lines}
 use Rattle.judge_text.proofs.Parts.{Fine, part-read, part-full, part-refused, part-fine, left, part-moves}
 

@@ -15,7 +15,7 @@ use Rattle.packet_judge.specs.Judging.{leastBytes, judgeRead, judged}
 use Rattle.capture.specs.Finding.{packetLength, packetAt, before, recordFrom, nextRecord}
 use Rattle.capture.specs.Reading.{recordBytes, readingsIn}
 use Rattle.show.specs.Text.{places, decimal}
-use Rattle.judge_text.specs.Tallies.{tallyOf, none}
+use Rattle.packet_judge.specs.Tallies.{tallyOf, none}
 use Rattle.judge_text.specs.Text.{unreadableLabel, dirtyText, longerLabel, cleanText, verdictLine, verdictLines, verdictsOf, judgements, judgeText}
 use Rattle.judge_text.specs.Text.{linesIn, partFrom, printed}
 use Rattle.judge_text.specs.Text.{totalUnreadable, totalDirty, totalLonger, totalClean, totals}

@@ -17,9 +17,9 @@ use Rattle.capture.specs.declared.NextRecord.{NextRecord}
 use Rattle.capture.proofs.Answers.{Found, found}
 use Rattle.captures_text.specs.Lines.{mostCapture}
 use Rattle.show.proofs.Laid.{Laid, laid-then}
-use Rattle.judge_text.specs.Tallies.{tallied, sumOf}
+use Rattle.packet_judge.specs.Tallies.{tallied, sumOf}
 use Rattle.judge_text.specs.Text.{verdictLine, verdictOf, partMost, Part, stop, over, withLine, linesIn, ending, linesOf}
-use Rattle.judge_text.specs.declared.Tally.{Tally}
+use Rattle.packet_judge.specs.declared.Tally.{Tally}
 use Rattle.judge_text.specs.declared.Lines.{Lines}
 use Rattle.judge_text.proofs.Line.{line-most, totals-most}
 use Rattle.judge_text.proofs.Records.{never-refused, verdict-small}

@@ -1,5 +1,4 @@
 pub mod Line
-pub mod Tallying
 pub mod Records
 pub mod Parts
 pub mod Filled

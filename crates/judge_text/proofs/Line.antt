@@ -22,8 +22,8 @@ use Rattle.show.proofs.Laid.{laid-as, laid-first}
 use Rattle.show.proofs.Refusals.{refusal-most}
 use Rattle.judge_text.specs.Text.{unreadableLabel, dirtyText, longerLabel, cleanText, numberLine, unreadableLine, verdictLine, partMost}
 use Rattle.judge_text.specs.Text.{totalUnreadable, totalDirty, totalLonger, totalClean, totals}
-use Rattle.judge_text.specs.Tallies.{sumOf}
-use Rattle.judge_text.specs.declared.Tally.{Tally}
+use Rattle.packet_judge.specs.Tallies.{sumOf}
+use Rattle.packet_judge.specs.declared.Tally.{Tally}
 
 -- ---- the line of a verdict
 abbrev pub Small : Judged → Type 0

@@ -23,10 +23,10 @@ use Rattle.capture.specs.Reading.{behind}
 use Rattle.capture.proofs.Answers.{found, none-behind}
 use Rattle.captures_text.specs.Lines.{mostCapture}
 use Rattle.show.specs.Text.{refusal}
-use Rattle.judge_text.specs.Tallies.{tallied, sumOf}
+use Rattle.packet_judge.specs.Tallies.{tallied, sumOf}
 use Rattle.judge_text.specs.Text.{verdictLine, verdictOf, partMost, Part, stop, over, withLine, thenText, linesIn, closed, partFrom}
-use Rattle.judge_text.specs.declared.Tally.{Tally}
-use Rattle.judge_text.proofs.Tallying.{tallied-most}
+use Rattle.packet_judge.specs.declared.Tally.{Tally}
+use Rattle.packet_judge.proofs.Tallying.{tallied-most}
 
 -- one of the three holds
 pub by-turn : {P : Type 0} (s : List ℕ) (at room : ℕ) → (room < partMost → P) → (partMost ≤ room → nextRecord s at .length ≡ 0 → P)

@@ -16,11 +16,11 @@ use Rattle.packet_judge.specs.declared.Judged.{Judged}
 use Rattle.capture.specs.Reading.{readings}
 use Rattle.captures_text.specs.Lines.{mostCapture}
 use Rattle.show.specs.Text.{refusal}
-use Rattle.judge_text.specs.Tallies.{howMany, tallyOf, none, sumOf}
+use Rattle.packet_judge.specs.Tallies.{howMany, tallyOf, none, sumOf, plus}
 use Rattle.judge_text.specs.Text.{verdictLine, verdictLines, totals, judgements, judgeText, partMost, partFrom, printed}
-use Rattle.judge_text.specs.declared.Tally.{Tally}
+use Rattle.packet_judge.specs.declared.Tally.{Tally}
 use Rattle.judge_text.proofs.Line.{Small, line-most, totals-most}
-use Rattle.judge_text.proofs.Tallying.{howMany-append, Unrefused, four-sum, plus, plus-start}
+use Rattle.packet_judge.proofs.Tallying.{howMany-append, Unrefused, four-sum, plus-start}
 use Rattle.judge_text.proofs.Parts.{Fine, part-read, part-refused, part-fine, part-moves}
 use Rattle.judge_text.proofs.Readings.{verdicts-unrefused, verdicts-count, restText, text-parts}
 

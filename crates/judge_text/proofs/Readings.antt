@@ -17,10 +17,10 @@ use Rattle.capture.specs.declared.NextRecord.{NextRecord}
 use Rattle.capture.proofs.Answers.{found, none-behind}
 use Rattle.capture.proofs.Steps.{readings-end, readings-on, reading-induction}
 use Rattle.captures_text.specs.Lines.{mostCapture}
-use Rattle.judge_text.specs.Tallies.{tallyOf, tallied}
+use Rattle.packet_judge.specs.Tallies.{tallyOf, tallied, plus}
 use Rattle.judge_text.specs.Text.{verdictLine, verdictLines, totals, verdictOf, verdictsOf, partMost, Part, withLine, linesIn, ending, closed}
-use Rattle.judge_text.specs.declared.Tally.{Tally}
-use Rattle.judge_text.proofs.Tallying.{Unrefused, plus, plus-next, plus-end}
+use Rattle.packet_judge.specs.declared.Tally.{Tally}
+use Rattle.packet_judge.proofs.Tallying.{Unrefused, plus-next, plus-end}
 use Rattle.judge_text.proofs.Records.{never-refused}
 use Rattle.judge_text.proofs.Parts.{by-turn, verdictFrom, lines-full, lines-none, lines-more}
 

@@ -16,8 +16,8 @@ use Rattle.capture.specs.Finding.{packetAt, nextRecord}
 use Rattle.capture.specs.Reading.{behind, readings}
 use Rattle.captures_text.specs.Lines.{mostCapture}
 use Rattle.show.specs.Text.{decimal, refusal}
-use Rattle.judge_text.specs.Tallies.{tallyOf, tallied}
-use Rattle.judge_text.specs.declared.Tally.{Tally}
+use Rattle.packet_judge.specs.Tallies.{tallyOf, tallied}
+use Rattle.packet_judge.specs.declared.Tally.{Tally}
 use Rattle.judge_text.specs.declared.Lines.{Lines}
 
 -- ---- lines

@@ -10,24 +10,17 @@ ghost use Rattle.packet_judge.specs.Judging.{judged};
 ghost use Rattle.packet_judge.specs.declared.Judged.the-variants.{Refused};
 ghost use Rattle.capture.specs.Finding.{packetAt};
 ghost use Rattle.captures_text.specs.Lines.{mostCapture};
-ghost use Rattle.judge_text.specs.Tallies.{tallied as Tallies·tallied, sumOf};
+ghost use Rattle.packet_judge.specs.Tallies.{sumOf};
 ghost use Rattle.judge_text.specs.Text.{numberLine, unreadableLine, verdictLine, totals, ending, linesIn, closed, partFrom, linesOf};
 use captures_text::MOST_CAPTURE;
 use opus_defines::Refusal;
 use opus_defines::Rule;
 use opus_defines::wide;
 use packet_judge::Judged;
+use packet_judge::Tally;
 
 // The longest text that is put at once, in bytes: the four totals, with 5 digits each.
 pub const PART_MOST: usize = 78;
-
-// How many verdicts of each kind there were.
-pub struct Tally {
-    pub unreadable: usize,
-    pub dirty: usize,
-    pub longer: usize,
-    pub clean: usize,
-}
 
 // The bytes put into a buffer, the place from which to go on with the verdicts so far, and whether no record is left.
 pub struct Lines {
@@ -90,40 +83,6 @@ fn put_totals(out: &mut [u8], at: usize, t: Tally) -> usize
 
 // ---- verdicts
 
-// One verdict more.
-fn tallied(j: Judged, t: Tally) -> Tally
-    requires { ⌜ sumOf t ≤ mostCapture ⌝ }
-    ensures { λ r. ⌜ r ≡ Tallies·tallied j t ⌝ }
-{
-    match j {
-        Judged::Refused(_) => t,
-        Judged::Unreadable(_, _) => Tally {
-            unreadable: t.unreadable + 1,
-            dirty: t.dirty,
-            longer: t.longer,
-            clean: t.clean,
-        },
-        Judged::Dirty => Tally {
-            unreadable: t.unreadable,
-            dirty: t.dirty + 1,
-            longer: t.longer,
-            clean: t.clean,
-        },
-        Judged::Longer(_) => Tally {
-            unreadable: t.unreadable,
-            dirty: t.dirty,
-            longer: t.longer + 1,
-            clean: t.clean,
-        },
-        Judged::Clean => Tally {
-            unreadable: t.unreadable,
-            dirty: t.dirty,
-            longer: t.longer,
-            clean: t.clean + 1,
-        },
-    }
-}
-
 // The verdict on the packet of the record that stands at a place.
 fn judge_at(data: &[u8], at: usize) -> Judged
     ensures { λ r. ⌜ r ≡ judged false (packetAt (now («data» .entry)) at) ⌝ }
@@ -155,7 +114,7 @@ fn record_lines(data: &[u8], start: usize, tally: Tally, out: &mut [u8]) -> Line
         let place = r.place;
         at = place + capture::HEAD_BYTES + r.length;
         let j = judge_at(data, place);
-        t = tallied(j, t);
+        t = packet_judge::tallied(j, t);
         n = put_verdict(out, n, j);
     }
     Lines {

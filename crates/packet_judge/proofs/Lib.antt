@@ -2,5 +2,6 @@ pub mod Telling
 pub mod Verdicts
 pub mod Taken
 pub mod Within
+pub mod Tallying
 pub mod Promises
 pub mod Examples

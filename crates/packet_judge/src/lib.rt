@@ -1,11 +1,12 @@
 // The judge of packets (document 02, M-110): unreadable, with rule and place; dirty padding; longer than needed, with the least length; or clean.
 ghost use mathlib.Core.Path.{_≡_};
-ghost use Prim.Native.Nat.{ℕ, _+_, _≤_};
+ghost use Prim.Native.Nat.{ℕ, _+_, _<_, _≤_, _^_};
 ghost use lib.ListN.{length};
 ghost use Rattle.opus_size.specs.Size.{mostBytes};
 ghost use Rattle.opus_format.specs.Frames.{total, longest};
 ghost use Rattle.opus_format.specs.Reading.{accepted};
 ghost use Rattle.packet_judge.specs.Judging.{unread, said, judgeRead, judged as Judging·judged};
+ghost use Rattle.packet_judge.specs.Tallies.{tallied as Tallies·tallied, sumOf};
 use opus_defines::Refusal;
 use opus_defines::Rule;
 use opus_defines::Verdict;
@@ -22,6 +23,14 @@ pub enum Judged {
     // Its frames and upper six TOC bits fit in so many bytes, which are fewer than it takes.
     Longer(usize),
     Clean,
+}
+
+// How many verdicts of each kind there were.
+pub struct Tally {
+    pub unreadable: usize,
+    pub dirty: usize,
+    pub longer: usize,
+    pub clean: usize,
 }
 
 // The verdict on a packet that the reader refuses.
@@ -74,4 +83,38 @@ pub fn judge_packet(data: &[u8], self_delimited: bool) -> Judged
         return judge_read(data, self_delimited, &lengths[..n], first, taken);
     };
     refused(e)
+}
+
+// One verdict more.
+pub fn tallied(j: Judged, t: Tally) -> Tally
+    requires { ⌜ sumOf t + 1 < 2 ^ 64 ⌝ }
+    ensures { λ r. ⌜ r ≡ Tallies·tallied j t ⌝ }
+{
+    match j {
+        Judged::Refused(_) => t,
+        Judged::Unreadable(_, _) => Tally {
+            unreadable: t.unreadable + 1,
+            dirty: t.dirty,
+            longer: t.longer,
+            clean: t.clean,
+        },
+        Judged::Dirty => Tally {
+            unreadable: t.unreadable,
+            dirty: t.dirty + 1,
+            longer: t.longer,
+            clean: t.clean,
+        },
+        Judged::Longer(_) => Tally {
+            unreadable: t.unreadable,
+            dirty: t.dirty,
+            longer: t.longer + 1,
+            clean: t.clean,
+        },
+        Judged::Clean => Tally {
+            unreadable: t.unreadable,
+            dirty: t.dirty,
+            longer: t.longer,
+            clean: t.clean + 1,
+        },
+    }
 }

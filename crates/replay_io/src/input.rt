@@ -65,7 +65,7 @@ fn read(input: &mut [u8]) -> Got {
     if input.len() == 0 {
         return Got::End;
     }
-    stdio::read_more(input, 0)
+    stdio::read_more(STDIN_FILENO, input, 0)
 }
 
 // A read that fails is told, and ends the input besides.

@@ -6,6 +6,7 @@ ghost use lib.ListN.{length, drop};
 ghost use Rattle.opus_size.specs.Size.{mostBytes};
 ghost use Rattle.opus_toc.specs.Toc.{upperSix};
 ghost use Rattle.opus_format.specs.Frames.{cut, total, longest};
+ghost use Rattle.opus_defines.specs.Bounds.{mostPacket};
 ghost use Rattle.opus_defines.specs.Outcome.{written};
 ghost use Rattle.opus_header.specs.Compact.{compact};
 ghost use Rattle.spelling.specs.Spelling.{spellingOf, spelling, compactOf, shorter as Spelling·shorter, workAfter};
@@ -57,6 +58,25 @@ pub fn spell(packet: &[u8], work: &mut [u8]) -> Spelling
         return spell_frames(packet, work, p.toc, &lengths[..n], first);
     };
     Spelling::Original
+}
+
+// The bytes of a packet in its shorter spelling, with 65,535 bytes of work room.
+pub fn shorter_length(packet: &[u8]) -> usize
+    ensures { λ r. ⌜ r ≡ length (Spelling·shorter (now (packet .entry)) mostPacket) ⌝ }
+{
+    let mut lengths = [0u16; 48];
+    let p = opus::read_into(packet, false, &mut lengths);
+    let v = p.verdict;
+    let Verdict::Refused(_) = v else {
+        let n = p.count;
+        let m = opus_header::sums_of(&lengths[..n]);
+        let need = opus_header::compact_bytes(n, m, false);
+        if need < packet.len() {
+            return need;
+        }
+        return packet.len();
+    };
+    packet.len()
 }
 
 // The chooser: the packet in its shorter spelling, as a part of `work` or the packet itself.

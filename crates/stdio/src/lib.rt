@@ -1,7 +1,7 @@
 // Standard input and output of the programs. A read that failed is told from the end of the input, and a write that failed from one that was
 // made: a line on standard error says so, where nothing else is ever written. A program has no exit status; the launcher looks at that line.
 ghost use mathlib.Core.Path.{_≡_};
-ghost use Prim.Native.Nat.{_<_};
+ghost use Prim.Native.Nat.{_<_, _≤_};
 ghost use lib.ListN.{length};
 ghost use lib.Seq.{sets};
 ghost use Rattle.io.specs.Counts.{Counts};
@@ -29,13 +29,13 @@ pub struct Input {
 }
 
 // Reads once behind what is held. There is room, so that no byte is the end of the input.
-fn read_once(buf: &mut [u8], held: usize) -> Got
+fn read_once(fd: i32, buf: &mut [u8], held: usize) -> Got
     requires { ⌜ held < length (now buf) ⌝ }
     ensures length { λ _. ⌜ length (now (buf .exit)) ≡ length (now (buf .entry)) ⌝ }
     ensures got { λ r. ⌜ GotIn (length (now (buf .entry))) held r ⌝ }
 {
     let part = &mut buf[held..];
-    let got = libc::read(STDIN_FILENO, part);
+    let got = libc::read(fd, part);
     if got < 0 {
         return Got::Failed;
     }
@@ -47,20 +47,20 @@ fn read_once(buf: &mut [u8], held: usize) -> Got
 }
 
 // The same, tried again where it failed.
-pub fn read_more(buf: &mut [u8], held: usize) -> Got
+pub fn read_more(fd: i32, buf: &mut [u8], held: usize) -> Got
     requires { ⌜ held < length (now buf) ⌝ }
     ensures length { λ _. ⌜ length (now (buf .exit)) ≡ length (now (buf .entry)) ⌝ }
     ensures got { λ r. ⌜ GotIn (length (now (buf .entry))) held r ⌝ }
 {
     let mut left: usize = TRIES;
     while 0 < left {
-        let got = read_once(buf, held);
+        let got = read_once(fd, buf, held);
         let Got::Failed = got else {
             return got;
         };
         left -= 1;
     }
-    read_once(buf, held)
+    read_once(fd, buf, held)
 }
 
 // The line on standard error for a read that failed when n bytes had come.
@@ -80,13 +80,16 @@ pub fn tell_read_failed(n: usize) {
     io::write_all(STDERR_FILENO, &out[..k]);
 }
 
-// Reads until the buffer is full or the input ends, and tells where that fails.
-pub fn read_all(buf: &mut [u8]) -> Input
-    ensures { λ r. ⌜ Counts (r .bytes) (now (buf .exit)) ⌝ }
+// Reads behind what is held until the buffer is full or the input ends: it ends where the buffer is not full then, and no read failed.
+pub fn read_on(fd: i32, buf: &mut [u8], start: usize) -> Input
+    requires { ⌜ start ≤ length (now buf) ⌝ }
+    ensures length { λ _. ⌜ length (now (buf .exit)) ≡ length (now (buf .entry)) ⌝ }
+    ensures more { λ r. ⌜ start ≤ r .bytes ⌝ }
+    ensures within { λ r. ⌜ Counts (r .bytes) (now (buf .exit)) ⌝ }
 {
-    let mut held: usize = 0;
+    let mut held = start;
     while held < buf.len() {
-        let got = read_more(buf, held);
+        let got = read_more(fd, buf, held);
         match got {
             Got::Bytes(n) => {
                 held += n;
@@ -98,7 +101,6 @@ pub fn read_all(buf: &mut [u8]) -> Input
                 };
             }
             Got::Failed => {
-                tell_read_failed(held);
                 return Input {
                     ok: false,
                     bytes: held,
@@ -110,6 +112,17 @@ pub fn read_all(buf: &mut [u8]) -> Input
         ok: true,
         bytes: held,
     }
+}
+
+// The same of standard input, from the front of a buffer; where that fails it is told.
+pub fn read_all(buf: &mut [u8]) -> Input
+    ensures { λ r. ⌜ Counts (r .bytes) (now (buf .exit)) ⌝ }
+{
+    let input = read_on(STDIN_FILENO, buf, 0);
+    if !input.ok {
+        tell_read_failed(input.bytes);
+    }
+    input
 }
 
 // Writes a text, and tells where that fails; the answer is whether all was written.

@@ -63,7 +63,7 @@ add-at-2 c =
     omega (arith, turn-inside (turn i .loop .inv) (r .result) (r .ensures) (i .if1 .left))
 
 tallied-requires : tie.Need-tallied-requires Inv-loop μ-loop
-tallied-requires c κs = let i = found c in turn-few (turn i .loop .inv) (entry i .pre .0)
+tallied-requires c κs = let i = found c in omega (arith, turn-few (turn i .loop .inv) (entry i .pre .0))
 
 put-verdict-requires : tie.Need-put-verdict-requires Inv-loop μ-loop
 put-verdict-requires c κs =

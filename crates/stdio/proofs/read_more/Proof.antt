@@ -9,10 +9,10 @@ use Rattle.stdio.proofs.read_more.Statement.{statement}
 use Rattle.stdio.proofs.read_more.Tie as tie
 
 abbrev Inv-loop : tie.InvT-loop
-Inv-loop buf₀ held left₀ buf left = length buf ≡ length buf₀
+Inv-loop fd buf₀ held left₀ buf left = length buf ≡ length buf₀
 
 abbrev μ-loop : tie.MeasureT-loop
-μ-loop buf₀ held left₀ buf left = left
+μ-loop fd buf₀ held left₀ buf left = left
 
 returns : tie.Need-returns Inv-loop μ-loop
 returns c =

@@ -1,8 +1,8 @@
--- `judge_text::tallied` meets its contract.
+-- `packet_judge::tallied` meets its contract.
 -- Assumes nothing.
 use borrow.Author.Needs.{needs}
-use Rattle.judge_text.proofs.tallied.Statement.{statement}
-use Rattle.judge_text.proofs.tallied.Tie as tie
+use Rattle.packet_judge.proofs.tallied.Statement.{statement}
+use Rattle.packet_judge.proofs.tallied.Tie as tie
 
 returns-2 : tie.Need-returns-2
 returns-2 c = rw (c .before .enum-told2 .given .1)

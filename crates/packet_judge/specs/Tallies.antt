@@ -2,9 +2,9 @@
 use Prim.Native.Nat.{ℕ, _+_}
 use mathlib.Core.List.{List, [], _∷_}
 use mathlib.Core.Bool.{Bool, true, false, cond}
 use Rattle.packet_judge.specs.declared.Judged.{Judged}
 use Rattle.packet_judge.specs.declared.Judged.the-variants.{Refused, Unreadable, Dirty, Longer, Clean}
-use Rattle.judge_text.specs.declared.Tally.{Tally}
+use Rattle.packet_judge.specs.declared.Tally.{Tally}
 
 -- ---- the four kinds
 abbrev pub isUnreadable : Judged → Bool
@@ -55,6 +55,11 @@ tallied (Unreadable rule place) t = record { unreadable = t .unreadable + 1; dir
 tallied Dirty t = record { unreadable = t .unreadable; dirty = t .dirty + 1; longer = t .longer; clean = t .clean }
 tallied (Longer n) t = record { unreadable = t .unreadable; dirty = t .dirty; longer = t .longer + 1; clean = t .clean }
 tallied Clean t = record { unreadable = t .unreadable; dirty = t .dirty; longer = t .longer; clean = t .clean + 1 }
+
+-- two counts together
+abbrev pub plus : Tally → Tally → Tally
+plus t u =
+    record { unreadable = t .unreadable + u .unreadable; dirty = t .dirty + u .dirty; longer = t .longer + u .longer; clean = t .clean + u .clean }
 
 -- all verdicts together
 abbrev pub sumOf : Tally → ℕ

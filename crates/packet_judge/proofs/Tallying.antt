@@ -1,7 +1,7 @@
 -- Verdicts counted.
 --     tallied-most               one verdict more is one more in all, or none
 --     howMany-append, four-sum   how many of a kind: of two lists, and of the four kinds together
---     plus, plus-next, plus-end, plus-start     what is counted and what is still to come
+--     plus-next, plus-one, plus-end, plus-start     what is counted and what is still to come
 -- Assumes nothing.
 use Prim.Native.Nat.{_+_, _≤_}
 use native.Mathlib.Nat.{add-zero, zero-add, add-assoc}
@@ -11,10 +11,10 @@ use mathlib.Core.List.{List, [], _∷_, _++_}
 use mathlib.Core.Bool.{Bool, cond}
 use lib.ListN.{length}
 use Rattle.opus_defines.specs.declared.Refusal.{Refusal}
 use Rattle.packet_judge.specs.declared.Judged.{Judged}
 use Rattle.packet_judge.specs.declared.Judged.the-variants.{Refused, Unreadable, Dirty, Longer, Clean}
-use Rattle.judge_text.specs.Tallies.{howMany, tallyOf, none, tallied, sumOf}
-use Rattle.judge_text.specs.declared.Tally.{Tally}
+use Rattle.packet_judge.specs.Tallies.{howMany, tallyOf, none, tallied, plus, sumOf}
+use Rattle.packet_judge.specs.declared.Tally.{Tally}
 
 pub tallied-most : (j : Judged) (t : Tally) → sumOf (tallied j t) ≤ sumOf t + 1
 tallied-most (Refused e) t = omega arith
@@ -42,16 +42,19 @@ four-sum (Longer n ∷ js) u = omega (arith, four-sum js (u .1))
 four-sum (Clean ∷ js) u = omega (arith, four-sum js (u .1))
 
 -- ---- counted, and still to come
-abbrev pub plus : Tally → Tally → Tally
-plus t u =
-    record { unreadable = t .unreadable + u .unreadable; dirty = t .dirty + u .dirty; longer = t .longer + u .longer; clean = t .clean + u .clean }
-
 pub plus-next : (j : Judged) (t : Tally) (js : List Judged) → plus t (tallyOf (j ∷ js)) ≡ plus (tallied j t) (tallyOf js)
 plus-next (Refused e) t js = simp zero-add
 plus-next (Unreadable rule place) t js = simp (zero-add, add-assoc)
 plus-next Dirty t js = simp (zero-add, add-assoc)
 plus-next (Longer n) t js = simp (zero-add, add-assoc)
 plus-next Clean t js = simp (zero-add, add-assoc)
+
+pub plus-one : (j : Judged) (t : Tally) → tallied j t ≡ plus t (tallied j none)
+plus-one (Refused e) t = simp add-zero
+plus-one (Unreadable rule place) t = simp (zero-add, add-zero)
+plus-one Dirty t = simp (zero-add, add-zero)
+plus-one (Longer n) t = simp (zero-add, add-zero)
+plus-one Clean t = simp (zero-add, add-zero)
 
 pub plus-end : (t : Tally) → plus t (tallyOf []) ≡ t
 plus-end t = simp add-zero
