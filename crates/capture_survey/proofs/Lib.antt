@@ -1,0 +1,5 @@
+pub mod Savings
+pub mod Counting
+pub mod Going
+pub mod Summing
+pub mod Promises

@@ -1,0 +1,100 @@
+// What is counted of a capture (beyond document 02): its records, the bytes of their packets and those passed over, the verdicts on the packets (M-110), and
+// the bytes that compaction would reclaim (M-103).
+ghost use mathlib.Core.Path.{_≡_};
+ghost use mathlib.Core.Bool.{false};
+ghost use Prim.Native.Nat.{_+_, _*_, _<_, _≤_, _^_};
+ghost use lib.ListN.{length};
+ghost use Rattle.packet_judge.specs.Judging.{judged};
+ghost use Rattle.capture_survey.specs.Survey.{saved as Survey·saved, ofRecord, ofPassed, together, bytesIn, surveyOf};
+use capture::HEAD_BYTES;
+use packet_judge::Judged;
+use packet_judge::Tally;
+
+pub struct Survey {
+    pub records: usize,
+    pub packets: usize,
+    pub passed: usize,
+    pub verdicts: Tally,
+    pub reclaimable: usize,
+}
+
+// Nothing counted yet.
+pub fn nothing() -> Survey
+    ensures { λ r. ⌜ r ≡ ofPassed 0 ⌝ }
+{
+    Survey {
+        records: 0,
+        packets: 0,
+        passed: 0,
+        verdicts: Tally {
+            unreadable: 0,
+            dirty: 0,
+            longer: 0,
+            clean: 0,
+        },
+        reclaimable: 0,
+    }
+}
+
+// The bytes by which the shorter spelling of a packet is shorter, by the verdict on it: only a dirty packet is read once more.
+fn saved(j: Judged, packet: &[u8]) -> usize
+    requires { ⌜ (j ≡ judged false (now packet)) × (length (now packet) ≤ 65535) ⌝ }
+    ensures { λ r. ⌜ r ≡ Survey·saved (now (packet .entry)) ⌝ }
+{
+    match j {
+        Judged::Refused(_) => 0,
+        Judged::Unreadable(_, _) => 0,
+        Judged::Dirty => packet.len() - spelling::shorter_length(packet),
+        Judged::Longer(least) => packet.len() - least,
+        Judged::Clean => 0,
+    }
+}
+
+// A record counted, with the bytes passed over before it.
+fn with_record(sum: Survey, passed: usize, packet: &[u8]) -> Survey
+    requires { ⌜ (bytesIn sum + 3 * (passed + 5 + length (now packet)) < 2 ^ 64) × (length (now packet) ≤ 65535) ⌝ }
+    ensures { λ r. ⌜ r ≡ together sum (ofRecord passed (now (packet .entry))) ⌝ }
+{
+    let j = packet_judge::judge_packet(packet, false);
+    Survey {
+        records: sum.records + 1,
+        packets: sum.packets + packet.len(),
+        passed: sum.passed + passed,
+        verdicts: packet_judge::tallied(j, sum.verdicts),
+        reclaimable: sum.reclaimable + saved(j, packet),
+    }
+}
+
+// Bytes counted that are passed over.
+fn with_passed(sum: Survey, passed: usize) -> Survey
+    requires { ⌜ sum .passed + passed < 2 ^ 64 ⌝ }
+    ensures { λ r. ⌜ r ≡ together sum (ofPassed passed) ⌝ }
+{
+    let verdicts = sum.verdicts;
+    Survey {
+        records: sum.records,
+        packets: sum.packets,
+        passed: sum.passed + passed,
+        verdicts,
+        reclaimable: sum.reclaimable,
+    }
+}
+
+// What is counted so far, and of a capture.
+pub fn survey_on(data: &[u8], before: Survey) -> Survey
+    requires { ⌜ bytesIn before + 3 * length (now «data») < 2 ^ 64 ⌝ }
+    ensures { λ r. ⌜ r ≡ together before (surveyOf (now («data» .entry))) ⌝ }
+{
+    let mut sum = before;
+    let mut at: usize = 0;
+    loop {
+        let r = capture::next_record(data, at);
+        let n = r.length;
+        if n == 0 {
+            return with_passed(sum, r.passed);
+        }
+        let first = r.place + HEAD_BYTES;
+        at = first + n;
+        sum = with_record(sum, r.passed, &data[first..at]);
+    }
+}
