@@ -30,7 +30,7 @@ pub data Told (rest : List ℕ) : List ℕ → Type 0 where
 
 -- ---- a record at the front, with more behind
 module _ (p rest : List ℕ) (f : packetLength p ≡ 0 → ⊥) where
-  some-with-more : packetLength (p ++ rest) ≡ 0 → ⊥
+  pub some-with-more : packetLength (p ++ rest) ≡ 0 → ⊥
   some-with-more z = f (sym (stands-with-more p rest f) ∙ z)
 
   pub behind-with-more : drop (5 + packetLength (p ++ rest)) (p ++ rest) ≡ drop (5 + packetLength p) p ++ rest
@@ -39,7 +39,7 @@ module _ (p rest : List ℕ) (f : packetLength p ≡ 0 → ⊥) where
   pub same-line : getD (p ++ rest) 2 0 ≡ getD p 2 0
   same-line = head-byte p rest (omega (arith, length-fits p f)) 2 (omega arith)
 
-  same-packet : packetAt (p ++ rest) 0 ≡ packetAt p 0
+  pub same-packet : packetAt (p ++ rest) 0 ≡ packetAt p 0
   same-packet =
       let n = packetLength p in
       let fits = length-fits p f in
@@ -86,7 +86,7 @@ module _ (s x rest : List ℕ) (f : packetLength s ≡ 0 → ⊥) where
   front-found : packetLength (take bytes s ++ x) ≡ packetLength s
   front-found = stands-with-more (take bytes s) x (λ z. f (sym front-stands ∙ z)) ∙ front-stands
 
-  told-whole : Told rest x → Told rest (take bytes s ++ x)
+  pub told-whole : Told rest x → Told rest (take bytes s ++ x)
   told-whole t =
       let there : drop bytes (take bytes s ++ x) ≡ x = drop-at (take bytes s) x bytes (length-take-le bytes s (length-fits s f)) in
       whole {p = take bytes s ++ x} (rw front-found f) (rw (front-found, there) t)

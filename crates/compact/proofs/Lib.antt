@@ -1,1 +1,8 @@
 pub mod Sharing
+pub mod Fronts
+pub mod Parting
+pub mod Doing
+pub mod Resuming
+pub mod Calls
+pub mod Promises
+mod Examples

@@ -19,7 +19,8 @@ made c = c .share-from .ensures .0 ∙ sym (share-is (entry c .args .«data» .n
 
 fits : (c : tie.After-share-from) → c .share-from .result .written ≤ 262144
 fits c =
-    omega (arith, ap (λ (x : Share). x .written) (made c), share-bounds (entry c .args .«data» .now) (c .before .least .result) .0, c .before .least .ensures)
+    let b = c .before .least in
+    omega (arith, ap (λ (x : Share). x .written) (made c), share-bounds (entry c .args .«data» .now) (b .result) .0, b .ensures)
 
 array-share-prefix-out : tie.Need-array-share-prefix-out
 array-share-prefix-out c = omega (arith, fits (c .before), c .out2 .given)
