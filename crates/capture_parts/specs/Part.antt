@@ -2,13 +2,14 @@
 use Prim.Native.Nat.{ℕ, _≤_}
 use mathlib.Core.Path.{_≡_}
 use mathlib.Core.List.{List}
-use mathlib.Core.Bool.{true, false}
+use mathlib.Core.Bool.{cond}
+use lib.Dec.{ltb}
 use lib.ListN.{length}
 use Rattle.capture_window.specs.Window.{settled}
 use Rattle.capture_parts.specs.declared.Part.{Part}
 
--- at the end of the file all that is held is the part; before, the buffer is full, and the part is what is settled of it
+-- a buffer that could not be filled holds the end of the file, and all that it holds is the part; of a full one the part is what is settled
 pub record PartOf (buf : List ℕ) (r : Part) : Type 0 where
   pub within : r .held ≤ length buf
-  pub at-end : r .last ≡ true → r .bytes ≡ r .held
-  pub before : r .last ≡ false → (r .held ≡ length buf) × (r .bytes ≡ settled buf)
+  pub ending : r .last ≡ ltb (r .held) (length buf)
+  pub amount : r .bytes ≡ cond (r .last) (r .held) (settled buf)

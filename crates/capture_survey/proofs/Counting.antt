@@ -68,7 +68,8 @@ module _ (s : List ℕ) (at : ℕ) where
   rest-one h f = rw (readings-on s at h f) (counted-one s (nextRecord s at) (readings s (behind (nextRecord s at))) f)
 
 -- ---- a record more
-pub one-more : (t : Survey) (passed : ℕ) (p : List ℕ) {j : Judged} {v : Tally} {n : ℕ} → j ≡ judged false p → v ≡ tallied j (t .verdicts) → n ≡ saved p
+pub one-more : (t : Survey) (passed : ℕ) (p : List ℕ) {j : Judged} {v : Tally} {n : ℕ}
+    → j ≡ judged false p → v ≡ tallied j (t .verdicts) → n ≡ saved p
     → record { records = t .records + 1; packets = t .packets + length p; passed = t .passed + passed; verdicts = v; reclaimable = t .reclaimable + n }
     ≡ together t (ofRecord passed p)
 one-more t passed p e f g = rw (g, f, e, plus-one (judged false p) (t .verdicts))

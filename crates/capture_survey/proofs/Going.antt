@@ -45,7 +45,9 @@ module _ {s : List ℕ} {before sum : Survey} {at : ℕ} (g : Going s before sum
   ends-room = omega (arith, g .room, passes)
 
   pub ends : a .length ≡ 0 → {r : Survey} → r ≡ together sum (ofPassed (a .passed)) → r ≡ together before (surveyOf s)
-  ends z is = is ∙ sym (g .same ∙ ap (together sum) (rest-none s at (ap (λ (x : NextRecord). x .length) (sym e) ∙ z) ∙ ap (λ (x : NextRecord). ofPassed (x .passed)) (sym e)))
+  ends z is =
+      let end = rest-none s at (ap (λ (x : NextRecord). x .length) (sym e) ∙ z) ∙ ap (λ (x : NextRecord). ofPassed (x .passed)) (sym e) in
+      is ∙ sym (g .same ∙ ap (together sum) end)
 
   -- ---- a record
   module _ (f : a .length ≡ 0 → ⊥) where

@@ -22,7 +22,7 @@ use Rattle.compaction.proofs.Whole.{whole}
 use Rattle.compaction.proofs.Joining.{one-share, all-fit}
 use Rattle.capture_survey.specs.Survey.{ofPassed, together, surveyOf, surveyOfAll, bytesIn}
 use Rattle.capture_survey.proofs.Counting.{rest-most}
-use Rattle.capture_survey.proofs.Summing.{ofEntries, by-records, by-parts, entries-many, entries-verdicts, verdicts-all, reclaimed-whole}
+use Rattle.capture_survey.proofs.Summing.{verdictOn, by-records, by-parts, entries-many, entries-verdicts, verdicts-all, reclaimed-whole}
 
 -- ---- 1. What the program counts part by part, whatever the chunks are in which the file comes, is what is counted of the readings of the whole file.
 pub survey-counts-the-file : (chunks : List (List ℕ)) → Bytes (joinedUp chunks) → surveyOfAll (parts chunks) ≡ surveyOf (joinedUp chunks)
@@ -46,11 +46,11 @@ module _ (s : List ℕ) where
       × (Bytes s → sumOf (surveyOf s .verdicts) ≡ surveyOf s .records)
   unfolding recordsOf
   each-record-judged =
-      let is : surveyOf s .verdicts ≡ tallyOf (map (λ (e : Entry). judged false (e .packet)) es) = rw (by-records s, ← entries-verdicts es) (simp add-zero) in (
+      let is : surveyOf s .verdicts ≡ tallyOf (map verdictOn es) = rw (by-records s, ← entries-verdicts es) (simp add-zero) in (
         is,
         λ bytes.
             let ds = recordsIn (readings s 0) in
-            let n = length-map es (λ (e : Entry). judged false (e .packet)) in
+            let n = length-map es verdictOn in
             omega (arith, ap sumOf is, verdicts-all s bytes ds (stand-all s bytes 0 (omega arith)), n, every-byte-once .0),
       )
 

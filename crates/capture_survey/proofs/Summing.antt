@@ -5,7 +5,7 @@
 --     entries-many, entries-bytes, entries-verdicts, verdicts-all     its counts
 --     reclaimed-whole               the bytes that compaction reclaims
 -- Assumes nothing.
-use Prim.Native.Nat.{ℕ, suc, _+_, _*_, _-_, _≤_}
+use Prim.Native.Nat.{ℕ, _+_, _*_, _≤_}
 use native.Mathlib.Nat.{add-zero, zero-add, add-assoc}
 use native.Mathlib.Omega.{arith}
 use mathlib.Core.Path.{_≡_, refl, sym, ap, _∙_}
@@ -16,7 +16,7 @@ use lib.ListN.{length, length-append}
 use borrow.Author.Tests.{eqb-true, eqb-false}
 use Rattle.laws.specs.Bytes.{Bytes}
 use Rattle.laws.proofs.Never.{by-test}
-use Rattle.capture.specs.Records.{Entry, Holds, written, fileOf}
+use Rattle.capture.specs.Records.{Entry, written, fileOf}
 use Rattle.capture.specs.Finding.{packetAt, nextRecord}
 use Rattle.capture.specs.Reading.{behind, readings, entries, recordsIn, recordsOf, passedIn, passedOf}
 use Rattle.capture.specs.declared.NextRecord.{NextRecord}
@@ -30,11 +30,10 @@ use Rattle.packet_judge.specs.Judging.{judged}
 use Rattle.packet_judge.specs.Tallies.{tallyOf, none, tallied, plus, sumOf}
 use Rattle.packet_judge.specs.declared.Judged.{Judged}
 use Rattle.packet_judge.proofs.Tallying.{Unrefused, four-sum, plus-next, plus-start}
-use Rattle.compaction.specs.Account.{size}
 use Rattle.compaction.specs.Lossless.{StandAll}
 use Rattle.compaction.proofs.Entries.{next-length}
 use Rattle.compaction.proofs.Whole.{whole, whole-none, whole-one, whole-end}
-use Rattle.capture_survey.specs.Survey.{saved, ofRecord, ofPassed, together, counted, surveyOf, surveyOfAll}
+use Rattle.capture_survey.specs.Survey.{ofRecord, ofPassed, together, counted, surveyOf, surveyOfAll}
 use Rattle.capture_survey.specs.declared.Survey.{Survey}
 use Rattle.capture_survey.proofs.Savings.{saved-is, never-refused}
 use Rattle.capture_survey.proofs.Counting.{together-none, none-together, together-all, counted-none, counted-one, counted-end}
@@ -55,7 +54,8 @@ passed-anywhere n m t =
     let e : n + (t .passed + m) ≡ t .passed + (n + m) = omega arith in
     simp (zero-add, add-zero, e)
 
-record-anywhere : (n m : ℕ) (p : List ℕ) (t : Survey) → together (ofRecord n p) (together t (ofPassed m)) ≡ together (together (ofRecord 0 p) t) (ofPassed (n + m))
+record-anywhere : (n m : ℕ) (p : List ℕ) (t : Survey)
+    → together (ofRecord n p) (together t (ofPassed m)) ≡ together (together (ofRecord 0 p) t) (ofPassed (n + m))
 record-anywhere n m p t =
     let e : n + (t .passed + m) ≡ t .passed + (n + m) = omega arith in
     simp (zero-add, add-zero, add-assoc, e)
@@ -115,7 +115,8 @@ none-refused s bytes [] h = tt
 none-refused s bytes (a ∷ ds) h =
     (never-refused (packetAt s (a .place)) (h .0 .0 .most) (packet-bytes s (a .place) bytes), none-refused s bytes ds (h .1))
 
-pub verdicts-all : (s : List ℕ) → Bytes s → (ds : List NextRecord) → StandAll s ds → sumOf (tallyOf (map verdictOn (entries s ds))) ≡ length (map verdictOn (entries s ds))
+pub verdicts-all : (s : List ℕ) → Bytes s → (ds : List NextRecord) → StandAll s ds
+    → sumOf (tallyOf (map verdictOn (entries s ds))) ≡ length (map verdictOn (entries s ds))
 verdicts-all s bytes ds h = four-sum (map verdictOn (entries s ds)) (none-refused s bytes ds h)
 
 -- ---- what compaction reclaims

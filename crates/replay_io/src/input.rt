@@ -1,5 +1,6 @@
 // Numbers and bytes of a case, taken from the input buffer, which is filled again as need be.
 ghost use Prim.Native.Nat.{_≤_};
+use libc::STDIN_FILENO;
 use stdio::Got;
 
 // The longest packet, room or new length of a case.

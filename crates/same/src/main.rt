@@ -3,6 +3,8 @@
 ghost use mathlib.Core.Path.{_≡_};
 ghost use Prim.Native.Nat.{_≤_};
 ghost use lib.ListN.{length};
+ghost use Rattle.capture.specs.Reading.{recordsOf};
+ghost use Rattle.same.specs.Looking.{Looked};
 use libc::STDERR_FILENO;
 use libc::STDIN_FILENO;
 
@@ -28,8 +30,8 @@ struct Match {
 fn find_part(data: &[u8], new: &mut [u8], held: usize) -> Match
     requires { ⌜ held ≤ length (now new) ⌝ }
     ensures length { λ _. ⌜ length (now (new .exit)) ≡ length (now (new .entry)) ⌝ }
-    ensures held { λ r. ⌜ r .held ≤ length (now (new .entry)) ⌝ }
-    ensures few { λ r. ⌜ r .records ≤ length (now («data» .entry)) ⌝ }
+    ensures seen { λ r. ⌜ Looked (recordsOf (now («data» .entry))) (now (new .exit)) r ⌝ }
+    ensures few { λ r. ⌜ (r .held ≤ length (now (new .entry))) × (r .records ≤ length (now («data» .entry))) ⌝ }
 {
     let input = stdio::read_on(NEW_FILE, new, held);
     let ok = input.ok;

@@ -64,12 +64,12 @@ pub fn spell(packet: &[u8], work: &mut [u8]) -> Spelling
 pub fn shorter_length(packet: &[u8]) -> usize
     ensures { λ r. ⌜ r ≡ length (Spelling·shorter (now (packet .entry)) mostPacket) ⌝ }
 {
-    let mut lengths = [0u16; 48];
-    let p = opus::read_into(packet, false, &mut lengths);
+    let mut ns = [0u16; 48];
+    let p = opus::read_into(packet, false, &mut ns);
     let v = p.verdict;
     let Verdict::Refused(_) = v else {
         let n = p.count;
-        let m = opus_header::sums_of(&lengths[..n]);
+        let m = opus_header::sums_of(&ns[..n]);
         let need = opus_header::compact_bytes(n, m, false);
         if need < packet.len() {
             return need;

@@ -66,7 +66,8 @@ module _ {t : List ℕ} {value i : ℕ} (w : Digits t value i) where
     pub too-large : 48 ≤ getD t i 0 → getD t i 0 ≤ 57 → 100000000000000000 ≤ value → noNumber ≡ numberIn t
     too-large g k l = sym (here (large value (getD t i 0) (drop (i + 1) t) g k l))
 
-    pub one-more : 48 ≤ getD t i 0 → getD t i 0 ≤ 57 → value < 100000000000000000 → {v : ℕ} → v ≡ getD t i 0 - 48 → Digits t (10 * value + v) (i + 1)
+    pub one-more : 48 ≤ getD t i 0 → getD t i 0 ≤ 57 → value < 100000000000000000
+        → {v : ℕ} → v ≡ getD t i 0 - 48 → Digits t (10 * value + v) (i + 1)
     one-more g k l e =
         record {
           inside = omega arith;

@@ -9,7 +9,7 @@ use Rattle.capture_parts.proofs.read_part.Tie as tie
 returns : tie.Need-returns
 returns c =
     let r = c .before .before .before .read-on in
-    (r .ensures .0, last-part (r .last .1 .0) (r .result .ok) (r .result .bytes) (r .ensures .1 .1 .0))
+    (r .ensures .0, last-part (r .last .1 .0) (r .result .ok) (r .result .bytes) (c .if1 .taken))
 
 returns-2 : tie.Need-returns-2
 returns-2 c =

@@ -71,7 +71,7 @@ find-part-requires c κs = turn (c .before .before .before) .loop .inv .2
 -- the records found so far are fewer than the bytes read
 few : (c : tie.After-find-part Inv-loop μ-loop)
     → let k = known c in turn k .loop .records + c .find-part .result .records ≤ turn k .loop .done + read k .read-part .result .bytes
-few c = let k = known c in omega (arith, turn k .loop .inv .3, c .find-part .ensures .1 .1, long k)
+few c = let k = known c in omega (arith, turn k .loop .inv .3, c .find-part .ensures .1 .1 .1, long k)
 
 add-records : tie.Need-add-records Inv-loop μ-loop
 add-records c =
@@ -83,7 +83,7 @@ abbrev found : tie.Else3 Inv-loop μ-loop → tie.After-find-part Inv-loop μ-lo
 found c = sought (c .before .before .before .before)
 
 at-end-requires : tie.Need-at-end-requires Inv-loop μ-loop
-at-end-requires c κs = let w = found (c .before .before) .find-part in omega (arith, w .ensures .1 .0, w .ensures .0)
+at-end-requires c κs = let w = found (c .before .before) .find-part in omega (arith, w .ensures .1 .1 .0, w .ensures .0)
 
 add-done : tie.Need-add-done Inv-loop μ-loop
 add-done c = let k = known (found (c .before)) in omega (arith, short k, turn k .loop .inv .0 .far)
@@ -111,7 +111,7 @@ loop-again c =
     let m = c .before .before .keep-rest in (
       reads-on (turn k .loop .inv .0) (read k .before .before .loop-test .taken) (r .ensures .0) (r .ensures .1) (f .if4 .left) (m .kept .0) (m .ensures .1),
       same-new w,
-      omega (arith, w .find-part .ensures .1 .0, w .find-part .ensures .0),
+      omega (arith, w .find-part .ensures .1 .1 .0, w .find-part .ensures .0),
       few w,
     )
 

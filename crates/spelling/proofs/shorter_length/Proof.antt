@@ -30,8 +30,8 @@ reading c =
     readable (entry r .args .packet .now) mostPacket (r .read-into .result) (r .read-into .last .1 .1 .0) (r .read-into .ensures) (bytes r)
     (c .enum-told2 .given .1)
 
-array-share-prefix-lengths : tie.Need-array-share-prefix-lengths
-array-share-prefix-lengths c = reading c .inside
+array-share-prefix-ns : tie.Need-array-share-prefix-ns
+array-share-prefix-ns c = reading c .inside
 
 slice-aggregate-sums-of : tie.Need-slice-aggregate-sums-of
 slice-aggregate-sums-of c = sym (length-take-le _ _ (reading (c .before) .inside))
@@ -74,7 +74,7 @@ shorter-length-spec =
     (λ c κs. search needs)
     (λ c. search needs)
     (λ c. search needs)
-    array-share-prefix-lengths
+    array-share-prefix-ns
     slice-aggregate-sums-of
     sums-of-requires
     compact-bytes-requires
