@@ -1,7 +1,8 @@
 -- A share that comes to the end of a capture has done every record of it, and nothing is lost.
---     All, all-done                  what it writes, and what it counts
+--     compacted                      records one right behind another, each rewritten
+--     All, all-done                  what such a share writes, and what it counts
 --     by-the-rule                    what is written, as one rule for each record
---     loses-nothing                  the records that are written, rewritten, are those of the capture
+--     loses-nothing, none-shorter    what is written reads back as the records of the capture, and could not be shorter
 -- Assumes nothing.
 use Prim.Native.Nat.{ℕ, _+_, _-_, _<_, _≤_}
 use native.Mathlib.Omega.{arith}
@@ -28,7 +29,6 @@ use Rattle.compaction.proofs.Least.{all-least}
 use Rattle.compact.specs.Stream.{shareOf, writtenOf}
 use Rattle.compact.proofs.Fronts.{share-nil, written-nil, sizeIn, share-taken, written-taken, share-full, share-byte, written-byte}
 
--- a file of records, each rewritten
 abbrev pub compacted : List Entry → List ℕ
 compacted es = fileOf (map rewritten es)
 

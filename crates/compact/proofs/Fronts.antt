@@ -1,5 +1,5 @@
 -- The share of a capture, and what it writes, by what stands at the capture's front.
---     same-share                     shares with the same counts are the same
+--     same-share, share-eta          shares with the same counts are the same, and one that was made is no refusal
 --     share-nil, written-nil         nothing
 --     share-taken, written-taken     a record that fits the budget: it is done, and the share goes on behind it with what is left
 --     share-full, written-full       one that does not: the share stops before it
@@ -35,7 +35,6 @@ pub same-share : {r n w c p r′ n′ w′ c′ p′ : ℕ} → r ≡ r′ → n
     (record { verdict = Accepted; resume = r′; records = n′; written = w′; reclaimed = c′; passed = p′ })
 same-share a b c d e = rw (a, b, c, d, e)
 
--- a share that was made is no refusal
 pub share-eta : (s : List ℕ) (b : ℕ) → let x = shareOf s b in
     x
     ≡ record {
@@ -56,7 +55,7 @@ shareIn s b r = accounted (stop s b r) (account s (stop s b r) (done s b r))
 abbrev writtenIn : List ℕ → ℕ → List NextRecord → List ℕ
 writtenIn s b r = output s (done s b r)
 
--- a share with one record more in front, one that stands further behind, and one that passes more over
+-- a share with one record more in front, and one whose answers stand n bytes further behind, of which the first passes k more over
 abbrev counted : List ℕ → NextRecord → Share → Share
 counted s a x =
     record {

@@ -1,3 +1,4 @@
+-- What the proofs of the functions use, and what follows from the definitions alone.
 pub mod Sharing
 pub mod Fronts
 pub mod Parting

@@ -7,6 +7,7 @@ use mathlib.Core.List.{List, [], _++_}
 use lib.ListN.{length, take, drop, length-drop}
 use Rattle.laws.specs.Bytes.{Bytes}
 use Rattle.laws.proofs.Bytes.{bytes-take}
+use Rattle.opus_defines.specs.declared.Refusal.{Refusal}
 use Rattle.opus_defines.specs.declared.Refusal.the-variants.{OverBudget}
 use Rattle.capture.specs.Records.{Entry, written}
 use Rattle.capture.specs.Finding.{packetLength}
@@ -35,13 +36,13 @@ pub share-of-the-file : (chunks : List (List ℕ)) (budget : ℕ) → Bytes (joi
     (sharedBy budget (parts chunks) ≡ shareOf file budget) × (writtenFor budget (parts chunks) ≡ writtenOf file budget)
 share-of-the-file chunks budget h = cuts-share (parts-cut [] chunks h) budget
 
--- ---- 2. That is what one call on the whole file answers and writes, where it is not refused. It is refused, by -21, exactly where no record is done and the
--- share stops before the end of the file; then nothing is written.
+-- ---- 2. That is what one call on the whole file answers and writes, where it is not refused. It is refused exactly where no record is done and the share
+-- stops before the end of the file, by -21 and nothing else; then nothing is written.
 pub as-the-call-does : (file : List ℕ) (budget : ℕ)
     → let n = night file 0 budget budget in
     let s = shareOf file budget in
-    ((ds : List NextRecord) (a : NextRecord) → n ≡ does ds a → (share file n ≡ s) × (output file ds ≡ writtenOf file budget))
-    × (n ≡ refuses OverBudget → (s .records ≡ 0) × (s .resume < length file) × (writtenOf file budget ≡ []))
+    ((ds : List NextRecord) (a : NextRecord) → n ≡ does ds a → (share file n ≡ s) × (writtenOf file budget ≡ output file ds))
+    × ((e : Refusal) → n ≡ refuses e → (e ≡ OverBudget) × (s .records ≡ 0) × (s .resume < length file) × (writtenOf file budget ≡ []))
     × (s .records ≡ 0 → s .resume < length file → n ≡ refuses OverBudget)
 as-the-call-does file budget = (call-does file budget, over-none file budget, none-over file budget)
 
