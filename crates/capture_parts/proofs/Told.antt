@@ -24,7 +24,7 @@ settled-part buf ok n k h e = record { within = omega arith; ending = sym (le-lt
 
 module _ (buf : List ℕ) (r : Part) (p : PartOf buf r) where
   -- before the end the buffer is full
-  full : r .last ≡ false → (r .held ≡ length buf) × (r .bytes ≡ settled buf)
+  pub full : r .last ≡ false → (r .held ≡ length buf) × (r .bytes ≡ settled buf)
   full e =
       let most = ltb-false (r .held) (length buf) (sym (p .ending) ∙ e) in
       (omega (arith, p .within), p .amount ∙ rw e)

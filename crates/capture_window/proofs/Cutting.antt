@@ -41,10 +41,11 @@ both c x y = rw (← append-assoc (take c x) (drop c x) y, take-append-drop c x)
 pub parts-join : (held : List ℕ) (cs : List (List ℕ)) → joinedUp (partsFrom held cs) ≡ held ++ joinedUp cs
 unfolding joinedUp partsFrom
 parts-join held [] = refl
-parts-join held (c ∷ cs) =
+parts-join held (c ∷ []) = append-assoc held c []
+parts-join held (c ∷ d ∷ cs) =
     let x = held ++ c in
     let k = settled x in
-    ap (λ (l : List ℕ). take k x ++ l) (parts-join (drop k x) cs) ∙ (both k x (joinedUp cs) ∙ append-assoc held c (joinedUp cs))
+    ap (λ (l : List ℕ). take k x ++ l) (parts-join (drop k x) (d ∷ cs)) ∙ (both k x (joinedUp (d ∷ cs)) ∙ append-assoc held c (joinedUp (d ∷ cs)))
 
 bytes-front : (x y : List ℕ) → Bytes (x ++ y) → Bytes x
 bytes-front x y h = rw (take-append-seam x y) at (bytes-take (length x) (x ++ y) h)
@@ -61,10 +62,12 @@ cut-one x y ps h on =
 pub parts-cut : (held : List ℕ) (cs : List (List ℕ)) → Bytes (held ++ joinedUp cs) → Cuts (partsFrom held cs) (held ++ joinedUp cs)
 unfolding joinedUp partsFrom
 parts-cut held [] h = part (told-end held) over
-parts-cut held (c ∷ cs) h =
+parts-cut held (c ∷ []) h = rw (append-assoc held c []) at (part (told-end (held ++ c)) over)
+parts-cut held (c ∷ d ∷ cs) h =
     let x = held ++ c in
-    let all = append-assoc held c (joinedUp cs) in
-    rw all at (cut-one x (joinedUp cs) (partsFrom (drop (settled x) x) cs) (rw all h) (parts-cut (drop (settled x) x) cs))
+    let more = joinedUp (d ∷ cs) in
+    let all = append-assoc held c more in
+    rw all at (cut-one x more (partsFrom (drop (settled x) x) (d ∷ cs)) (rw all h) (parts-cut (drop (settled x) x) (d ∷ cs)))
 
 -- ---- what is written
 module _ (f : Entry → List ℕ) where

@@ -26,7 +26,7 @@ amounts = refl
 abbrev chunks : List (List ℕ)
 chunks = (0x4B ∷ 0x9D ∷ []) ∷ ((65 ∷ 0 ∷ 2 ∷ 8 ∷ 9 ∷ []) ++ cut) ∷ (0x4B ∷ 5 ∷ []) ∷ []
 
-in-parts : parts chunks ≡ [] ∷ whole ∷ (cut ++ (0x4B ∷ [])) ∷ (5 ∷ []) ∷ []
+in-parts : parts chunks ≡ [] ∷ whole ∷ (cut ++ (0x4B ∷ 5 ∷ [])) ∷ []
 unfolding partsFrom settled settledIn packetLength
 in-parts = refl
 

@@ -15,11 +15,12 @@ unfoldable pub joinedUp : List (List ℕ) → List ℕ
 joinedUp [] = []
 joinedUp (c ∷ cs) = c ++ joinedUp cs
 
--- the parts of a file of which `held` is held when these chunks are still to come: with each chunk as much of what is then held as is settled; and at the end
--- all that is left
+-- the parts of a file of which `held` is held when these chunks are still to come: with each chunk as much of what is then held as is settled; with the last one,
+-- with which the end of the file is known, all of it
 unfoldable pub partsFrom : List ℕ → List (List ℕ) → List (List ℕ)
 partsFrom held [] = held ∷ []
-partsFrom held (c ∷ cs) = take (settled (held ++ c)) (held ++ c) ∷ partsFrom (drop (settled (held ++ c)) (held ++ c)) cs
+partsFrom held (c ∷ []) = (held ++ c) ∷ []
+partsFrom held (c ∷ d ∷ cs) = take (settled (held ++ c)) (held ++ c) ∷ partsFrom (drop (settled (held ++ c)) (held ++ c)) (d ∷ cs)
 
 abbrev pub parts : List (List ℕ) → List (List ℕ)
 parts chunks = partsFrom [] chunks

@@ -34,7 +34,7 @@ third = 0x4b ∷ 0x9d ∷ 0x03 ∷ 0x00 ∷ 0x02 ∷ 0x00 ∷ 0xaa ∷ []
 abbrev chunks : List (List ℕ)
 chunks = (first ++ (0x4b ∷ 0x9d ∷ 0x02 ∷ [])) ∷ ((0x00 ∷ 0x02 ∷ 0x03 ∷ 0x00 ∷ 0x4b ∷ []) ++ (third ++ (0x00 ∷ []))) ∷ []
 
-in-parts : parts chunks ≡ first ∷ second ∷ (0x4b ∷ (third ++ (0x00 ∷ []))) ∷ []
+in-parts : parts chunks ≡ first ∷ (second ++ (0x4b ∷ (third ++ (0x00 ∷ [])))) ∷ []
 unfolding partsFrom settled settledIn packetLength
 in-parts = refl
 
