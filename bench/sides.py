@@ -1,4 +1,4 @@
-"""What bench/run and bench/compaction share: the archive, libopus 1.3.1 built from its source, a counter of instructions, a table printed."""
+"""What bench/run, bench/compaction and bench/programs share: the archive, libopus 1.3.1 built from its source, a counter of instructions, a table printed."""
 import platform, re, shutil, subprocess, sys, tarfile
 from pathlib import Path
 
@@ -28,6 +28,11 @@ def sh(*words, **more):
         print(done.stdout + done.stderr, file=sys.stderr)
         stop("this failed: " + " ".join(words))
     return done.stdout
+
+
+def processor():
+    found = re.search(r"model name\s*: (.*)", Path("/proc/cpuinfo").read_text())
+    return found.group(1) if found else "a processor without a name"
 
 
 def nm():
