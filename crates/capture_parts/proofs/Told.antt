@@ -1,5 +1,6 @@
 -- What a part is known to be.
---     last-part, settled-part     the part at the end of a file, and before it
+--     last-part, settled-part     the part of a buffer that was filled, at the end of a file and before it
+--     filled-part                 both, of what is held of the buffer
 --     part-inside, part-moves     it lies in what is held; before the end it leaves less than a window
 --     Reads, reads-start, reads-on     a file that is read through a buffer of 262,144 bytes, part by part, and how far
 -- Assumes nothing.
@@ -7,20 +8,37 @@ use Prim.Native.Nat.{ℕ, _+_, _-_, _<_, _≤_, _^_}
 use native.Mathlib.Omega.{arith}
 use mathlib.Core.Path.{_≡_, refl, sym, _∙_}
 use mathlib.Core.List.{List}
-use mathlib.Core.Bool.{Bool, true, false}
-use lib.ListN.{length}
-use borrow.Author.Tests.{ltb-false, lt-ltb, le-ltb}
+use mathlib.Core.Bool.{Bool, true, false, cond}
+use lib.ListN.{length, take}
+use lib.Seq.{take-all, length-take-le}
+use borrow.Author.Tests.{ltb-false}
 use Rattle.capture_window.specs.Window.{settled}
 use Rattle.capture_window.proofs.Promises.{settled-within, settled-leaves-few}
-use Rattle.capture_parts.specs.Part.{PartOf}
+use Rattle.capture_parts.specs.Part.{FilledIn, PartOf}
+use Rattle.capture_parts.specs.declared.Filled.{Filled}
 use Rattle.capture_parts.specs.declared.Part.{Part}
 
-pub last-part : (buf : List ℕ) (ok : Bool) (n : ℕ) → n < length buf → PartOf buf (record { ok = ok; last = true; held = n; bytes = n })
-last-part buf ok n h = record { within = omega arith; ending = sym (lt-ltb n (length buf) h); amount = refl }
+-- a buffer that was filled
+module _ (buf : List ℕ) (f : Filled) (h : FilledIn buf f) where
+  filled-full : f .last ≡ false → f .held ≡ length buf
+  filled-full e = let most = ltb-false (f .held) (length buf) (sym (h .ending) ∙ e) in omega (arith, h .within)
 
-pub settled-part : (buf : List ℕ) (ok : Bool) (n k : ℕ) → n ≡ length buf → k ≡ settled buf
-    → PartOf buf (record { ok = ok; last = false; held = n; bytes = k })
-settled-part buf ok n k h e = record { within = omega arith; ending = sym (le-ltb n (length buf) (omega arith)); amount = e }
+  pub last-part : f .last ≡ true → PartOf buf (record { ok = f .ok; last = true; held = f .held; bytes = f .held })
+  last-part e = record { within = h .within; ending = sym e ∙ h .ending; amount = refl }
+
+  pub settled-part : f .last ≡ false → (n : ℕ) → n ≡ settled buf → PartOf buf (record { ok = f .ok; last = false; held = f .held; bytes = n })
+  settled-part e n is = record { within = h .within; ending = sym e ∙ h .ending; amount = is }
+
+  -- what is held of it, all of it at the end of the file and before as much as is settled
+  abbrev heldPart : Bool → ℕ
+  heldPart last = cond last (length (take (f .held) buf)) (settled (take (f .held) buf))
+
+  held-by : (b : Bool) → f .last ≡ b → heldPart b ≡ cond b (f .held) (settled buf)
+  held-by true e = length-take-le (f .held) buf (h .within)
+  held-by false e = rw (take-all (f .held) buf (omega (arith, filled-full e)))
+
+  pub filled-part : (n : ℕ) → n ≡ heldPart (f .last) → PartOf buf (record { ok = f .ok; last = f .last; held = f .held; bytes = n })
+  filled-part n is = record { within = h .within; ending = h .ending; amount = is ∙ held-by (f .last) refl }
 
 module _ (buf : List ℕ) (r : Part) (p : PartOf buf r) where
   -- before the end the buffer is full

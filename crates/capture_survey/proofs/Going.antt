@@ -1,7 +1,7 @@
 -- A capture surveyed record by record: what is counted, what is still to come, and that no count can wrap.
 --     Going, going-start     where the loop stands
 --     Turn, turn             what one turn needs and leads to, where a record is found
---     ends-room, ends        the end
+--     ends                   the end
 -- Assumes nothing.
 use Prim.Native.Nat.{ℕ, _+_, _*_, _-_, _<_, _≤_, _^_}
 use native.Mathlib.Omega.{arith}
@@ -41,9 +41,6 @@ module _ {s : List ℕ} {before sum : Survey} {at : ℕ} (g : Going s before sum
   passes = rw e (omega (arith, next-place s at (g .inside), next-passed s at (g .inside)), next-place-le s at (g .inside))
 
   -- ---- the end
-  pub ends-room : sum .passed + a .passed < 2 ^ 64
-  ends-room = omega (arith, g .room, passes)
-
   pub ends : a .length ≡ 0 → {r : Survey} → r ≡ together sum (ofPassed (a .passed)) → r ≡ together before (surveyOf s)
   ends z is =
       let end = rest-none s at (ap (λ (x : NextRecord). x .length) (sym e) ∙ z) ∙ ap (λ (x : NextRecord). ofPassed (x .passed)) (sym e) in

@@ -1,12 +1,14 @@
 // What is counted of a capture (beyond document 02): its records, the bytes of their packets and those passed over, the verdicts on the packets (M-110), and
 // the bytes that compaction would reclaim (M-103).
 ghost use mathlib.Core.Path.{_≡_};
-ghost use mathlib.Core.Bool.{false};
+ghost use mathlib.Core.Bool.{false, cond};
 ghost use Prim.Native.Nat.{_+_, _*_, _<_, _≤_, _^_};
-ghost use lib.ListN.{length};
+ghost use lib.ListN.{length, take};
+ghost use Rattle.capture_window.specs.Window.{settled};
 ghost use Rattle.packet_judge.specs.Judging.{judged};
 ghost use Rattle.capture_survey.specs.Survey.{saved as Survey·saved, ofRecord, ofPassed, together, bytesIn, surveyOf};
 use capture::HEAD_BYTES;
+use capture_window::WINDOW;
 use packet_judge::Judged;
 use packet_judge::Tally;
 
@@ -80,21 +82,46 @@ fn with_passed(sum: Survey, passed: usize) -> Survey
     }
 }
 
-// What is counted so far, and of a capture.
-pub fn survey_on(data: &[u8], before: Survey) -> Survey
+// What is counted so far and of the part at the front of what is held, and the bytes of that part: all at the end of the file, before as many as are settled.
+pub struct Surveyed {
+    pub sum: Survey,
+    pub bytes: usize,
+}
+
+// Counts the part at the front of what is held, behind what is counted so far. How much is settled is seen on the way, as capture_window::settled sees it.
+pub fn survey_part(data: &[u8], last: bool, before: Survey) -> Surveyed
     requires { ⌜ bytesIn before + 3 * length (now «data») < 2 ^ 64 ⌝ }
-    ensures { λ r. ⌜ r ≡ together before (surveyOf (now («data» .entry))) ⌝ }
+    ensures part { λ r. ⌜ r .bytes ≡ cond last (length (now («data» .entry))) (settled (now («data» .entry))) ⌝ }
+    ensures sum { λ r. ⌜ r .sum ≡ together before (surveyOf (take (r .bytes) (now («data» .entry)))) ⌝ }
 {
     let mut sum = before;
     let mut at: usize = 0;
     loop {
-        let r = capture::next_record(data, at);
-        let n = r.length;
+        let mut n = capture::packet_length(data, at);
+        let mut place = at;
+        let mut passed: usize = 0;
         if n == 0 {
-            return with_passed(sum, r.passed);
+            let r = capture::next_record(data, at);
+            n = r.length;
+            place = r.place;
+            passed = r.passed;
+            if last {
+                if n == 0 {
+                    return Surveyed {
+                        sum: with_passed(sum, passed),
+                        bytes: data.len(),
+                    };
+                }
+            } else if data.len() - place < WINDOW - 1 {
+                let end = capture_window::short_from(data.len(), at);
+                return Surveyed {
+                    sum: with_passed(sum, end - at),
+                    bytes: end,
+                };
+            }
         }
-        let first = r.place + HEAD_BYTES;
+        let first = place + HEAD_BYTES;
         at = first + n;
-        sum = with_record(sum, r.passed, &data[first..at]);
+        sum = with_record(sum, passed, &data[first..at]);
     }
 }

@@ -11,7 +11,7 @@ use capture::HEAD_BYTES;
 pub const WINDOW: usize = 65540;
 
 // Of `held` bytes, of which no record stands in those from `at` on: the first place that has to be looked at again, behind which fewer are held than a window.
-fn short_from(held: usize, at: usize) -> usize
+pub fn short_from(held: usize, at: usize) -> usize
     ensures { λ r. ⌜ r ≡ max at (held - 65539) ⌝ }
 {
     if held < WINDOW {

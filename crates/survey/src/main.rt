@@ -42,16 +42,18 @@ fn survey(buf: &mut [u8])
     let mut done: usize = 0;
     let mut held: usize = 0;
     while done < MOST {
-        let p = capture_parts::read_part(STDIN_FILENO, buf, held);
-        let n = p.bytes;
-        let all = p.held;
-        if !p.ok {
+        let f = capture_parts::fill(STDIN_FILENO, buf, held);
+        let all = f.held;
+        let last = f.last;
+        if !f.ok {
             stdio::tell_read_failed(done + all);
             return;
         }
-        sum = capture_survey::survey_on(&buf[..n], sum);
+        let s = capture_survey::survey_part(&buf[..all], last, sum);
+        let n = s.bytes;
+        sum = s.sum;
         done += n;
-        if p.last {
+        if last {
             report(sum, done);
             return;
         }
