@@ -1,5 +1,6 @@
 pub mod Telling
 pub mod Verdicts
+pub mod Short
 pub mod Taken
 pub mod Within
 pub mod Tallying

@@ -7,6 +7,7 @@ ghost use Rattle.opus_format.specs.Frames.{total, longest};
 ghost use Rattle.opus_format.specs.Reading.{accepted};
 ghost use Rattle.packet_judge.specs.Judging.{unread, said, judgeRead, judged as Judging·judged};
 ghost use Rattle.packet_judge.specs.Tallies.{tallied as Tallies·tallied, sumOf};
+use opus::Short;
 use opus_defines::Refusal;
 use opus_defines::Rule;
 use opus_defines::Verdict;
@@ -69,8 +70,8 @@ fn judge_read(data: &[u8], self_delimited: bool, ns: &[u16], first: usize, taken
     verdict(dirt, least, taken)
 }
 
-// Judges the packet at the front of `data`, which in the ordinary form is all of it. What stands behind a self-delimited packet is no part of it.
-pub fn judge_packet(data: &[u8], self_delimited: bool) -> Judged
+// Reads any packet, and judges it.
+fn judge_whole(data: &[u8], self_delimited: bool) -> Judged
     ensures { λ r. ⌜ r ≡ Judging·judged «self_delimited» (now («data» .entry)) ⌝ }
 {
     let mut lengths = [0u16; 48];
@@ -83,6 +84,33 @@ pub fn judge_packet(data: &[u8], self_delimited: bool) -> Judged
         return judge_read(data, self_delimited, &lengths[..n], first, taken);
     };
     refused(e)
+}
+
+// Judges the packet at the front of `data`, which in the ordinary form is all of it. What stands behind a self-delimited packet is no part of it.
+// An ordinary one of code 0, 1 or 2 has no padding, and is read without an array: only two frames of one length in code 2 are longer than needed.
+pub fn judge_packet(data: &[u8], self_delimited: bool) -> Judged
+    ensures { λ r. ⌜ r ≡ Judging·judged «self_delimited» (now («data» .entry)) ⌝ }
+{
+    if self_delimited {
+        return judge_whole(data, true);
+    }
+    let s = opus::short_at(data);
+    match s {
+        Short::One(_, _) => Judged::Clean,
+        Short::Two(m, n, _) => {
+            if m != n {
+                return Judged::Clean;
+            }
+            verdict(false, 1 + 2 * n as usize, data.len())
+        }
+        Short::Broken(rule, place) => {
+            if opus::MOST_PACKET < data.len() {
+                return Judged::Refused(Refusal::BadArg);
+            }
+            Judged::Unreadable(rule, place)
+        }
+        Short::Counted => judge_whole(data, false),
+    }
 }
 
 // One verdict more.

@@ -1,12 +1,16 @@
 // Padding bytes of a packet (RFC 6716, section 3.2.5): whether one of them is not zero (document 02, M-105).
 ghost use mathlib.Core.Path.{_≡_};
-ghost use mathlib.Core.Bool.{true};
+ghost use mathlib.Core.Bool.{true, cond};
 ghost use Prim.Native.Nat.{_≤_, max};
+ghost use lib.Dec.{eqb};
 ghost use lib.ListN.{length};
 ghost use Rattle.opus_format.specs.Frames.{longest};
 ghost use Rattle.opus_format.specs.Dirt.{dirty, dirtyPacket};
 ghost use Rattle.padding.specs.Asked.{asksPadding};
 use opus_defines::Verdict;
+
+// The most bytes that are looked at by words of eight: of more, the largest byte is found sooner.
+const MOST_WORDS: usize = 128;
 
 fn larger(a: u8, b: u8) -> u8
     ensures { λ r. ⌜ r ≡ max a b ⌝ }
@@ -27,10 +31,56 @@ fn largest(s: &[u8]) -> u8
     most
 }
 
+// A byte more.
+fn dirt_or(dirt: bool, b: u8) -> bool
+    ensures { λ r. ⌜ r ≡ cond (eqb b 0) dirt true ⌝ }
+{
+    b != 0 || dirt
+}
+
+// Whether one of eight bytes is not zero: they are loaded and compared as one word.
+fn dirt_in_word(s: &[u8]) -> bool
+    requires { ⌜ length (now s) ≡ 8 ⌝ }
+    ensures { λ r. ⌜ r ≡ dirty (now (s .entry)) ⌝ }
+{
+    let mut dirt = false;
+    let mut i: usize = 0;
+    while i < 8 {
+        dirt = dirt_or(dirt, s[i]);
+        i += 1;
+    }
+    dirt
+}
+
+// The same of eight bytes or more. The last word may overlap the one before it, so that no byte is left over to be looked at by itself.
+fn dirt_in_words(s: &[u8]) -> bool
+    requires { ⌜ 8 ≤ length (now s) ⌝ }
+    ensures { λ r. ⌜ r ≡ dirty (now (s .entry)) ⌝ }
+{
+    let n = s.len();
+    let last = n - 8;
+    let mut i: usize = 0;
+    while i < last {
+        let end = i + 8;
+        if dirt_in_word(&s[i..end]) {
+            return true;
+        }
+        i = end;
+    }
+    dirt_in_word(&s[last..n])
+}
+
 // Whether one of these bytes is not zero.
 pub fn dirt_in(s: &[u8]) -> bool
     ensures { λ r. ⌜ r ≡ dirty (now (s .entry)) ⌝ }
 {
+    let n = s.len();
+    if n < 8 {
+        return largest(s) != 0;
+    }
+    if n <= MOST_WORDS {
+        return dirt_in_words(s);
+    }
     largest(s) != 0
 }
 

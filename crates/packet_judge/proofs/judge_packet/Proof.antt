@@ -1,61 +1,80 @@
--- `packet_judge::judge_packet` meets its contract: the packet is read, and what was read is judged.
+-- `packet_judge::judge_packet` meets its contract: by what was read without an array, and any other packet is read whole.
 -- Assumes nothing.
-use mathlib.Core.Path.{sym, _∙_}
+use mathlib.Core.Path.{sym}
 use borrow.Author.Needs.{needs}
-use lib.Seq.{length-take-le}
-use Rattle.packet_judge.proofs.Telling.{refused-told, Readable, readable}
+use Rattle.laws.specs.Bytes.{Bytes}
+use Rattle.opus.proofs.AtShort.{none-read}
+use Rattle.packet_judge.proofs.Verdicts.{judged-long, unreadable-said}
+use Rattle.packet_judge.proofs.Short.{one-clean, equal-said, unequal-clean}
 use Rattle.packet_judge.proofs.judge_packet.Statement.{statement}
 use Rattle.packet_judge.proofs.judge_packet.Tie as tie
 
--- where the packet's bytes are known, and the entry
-abbrev known : tie.After-read-into → tie.After-shared-slice-known
-known c = c .before .before
+-- the entry, and the packet as a list of bytes
+abbrev entry : tie.After-short-at → tie.Start
+entry c = c .before .before .before
 
-abbrev entry : tie.After-read-into → tie.Start
-entry c = known c .before
-
-reading : (c : tie.After-enum-told)
-    → let r = c .before .before in
-    let a = entry r .args in
-    Readable (a .self-delimited) (a .«data» .now) (r .read-into .result) (r .read-into .last .1 .1 .0) (r .read-into .ensures)
-reading c =
-    let r = c .before .before in
-    let a = entry r .args in
-    readable (a .self-delimited) (a .«data» .now) (r .read-into .result) (r .read-into .last .1 .1 .0) (r .read-into .ensures)
-    (record { byte = λ i. known r .shared-slice-known .given i .fits }) (c .enum-told .given .1)
-
-array-share-prefix-lengths : tie.Need-array-share-prefix-lengths
-array-share-prefix-lengths c = reading c .inside
-
-slice-aggregate-judge-read : tie.Need-slice-aggregate-judge-read
-slice-aggregate-judge-read c = sym (length-take-le _ _ (reading (c .before) .inside))
-
-judge-read-requires : tie.Need-judge-read-requires
-judge-read-requires c κs = let r = reading (c .before) in (r .some, r .block)
+bytes : (c : tie.After-short-at) → Bytes (entry c .args .«data» .now)
+bytes c = record { byte = λ i. c .before .before .shared-slice-known .given i .fits }
 
 returns : tie.Need-returns
-returns c =
-    let t = c .before .before in
-    reading t .goes-by (c .judge-read .ensures (t .before .before .read-into .result .toc))
+returns c = rw (c .before .if1 .taken) (c .judge-whole .ensures)
 
 returns-2 : tie.Need-returns-2
 returns-2 c =
-    let t = c .before .before in
-    let r = t .before .before in
-    let a = entry r .args in
-    c .refused .ensures
-    ∙ refused-told (a .self-delimited) (a .«data» .now) (r .read-into .result) (r .read-into .last .1 .1 .0) (r .read-into .ensures) _ (t .v .given .1)
+    let k = c .before .before .before .before in
+    let s = c .before .before .s in
+    rw (k .before .if1 .left)
+    (unequal-clean (entry k .args .«data» .now) (bytes k) (k .short-at .result) (k .short-at .ensures) _ _ _ (s .given .1) (c .if2 .taken))
+
+returns-3 : tie.Need-returns-3
+returns-3 c =
+    let k = c .before .before .before .before in
+    rw (k .before .if1 .left) (sym (judged-long _ (entry k .args .«data» .now) (c .if3 .taken)))
+
+returns-4 : tie.Need-returns-4
+returns-4 c =
+    let k = c .before .before in
+    rw (k .before .if1 .left)
+    (one-clean (entry k .args .«data» .now) (bytes k) (k .short-at .result) (k .short-at .ensures) _ _ (c .enum-told .given .1))
+
+returns-5 : tie.Need-returns-5
+returns-5 c =
+    let k = c .before .before .before .before .before in
+    let s = c .before .before .before .s in
+    rw (k .before .if1 .left)
+    (equal-said (entry k .args .«data» .now) (bytes k) (k .short-at .result) (k .short-at .ensures) _ _ _ (s .given .1)
+    (c .before .if2 .left) (c .verdict .ensures))
+
+returns-6 : tie.Need-returns-6
+returns-6 c =
+    let k = c .before .before .before .before in
+    let p = entry k .args .«data» .now in
+    let s = c .before .before .s2 in
+    rw (k .before .if1 .left)
+    (sym (unreadable-said _ p (c .if3 .left) _ _ (none-read p (bytes k) (k .short-at .result) (k .short-at .ensures) _ _ (s .given .1))))
+
+returns-7 : tie.Need-returns-7
+returns-7 c = rw (c .before .before .before .before .if1 .left) (c .judge-whole2 .ensures)
 
 pub judge-packet-spec : {M : Type 1} → statement M
 judge-packet-spec =
     tie.close
     (tie.spec
     (λ c κs. search needs)
-    (λ c. search needs)
-    (λ c. search needs)
-    array-share-prefix-lengths
-    slice-aggregate-judge-read
-    judge-read-requires
     returns
     (λ c κs. search needs)
-    returns-2)
+    (λ c. search needs)
+    (λ c. search needs)
+    returns-2
+    (λ c. search needs)
+    (λ c. search needs)
+    (λ c. search needs)
+    (λ c κs. search needs)
+    (λ c. search needs)
+    returns-3
+    (λ c. search needs)
+    (λ c κs. search needs)
+    returns-4
+    returns-5
+    returns-6
+    returns-7)
