@@ -15,7 +15,8 @@ use Rattle.capture_parts.proofs.Told.{full}
 -- ---- 1. Where the chunk c fills the buffer, behind what was held, and the file goes on, the part is the first of the file's parts from there on, and what
 -- stands behind it is what is held when the next chunk comes.
 pub part-is-the-next : (held c d : List ℕ) (cs : List (List ℕ)) (r : Part) → PartOf (held ++ c) r → r .last ≡ false
-    → (partsFrom held (c ∷ d ∷ cs) ≡ take (r .bytes) (held ++ c) ∷ partsFrom (drop (r .bytes) (held ++ c)) (d ∷ cs)) × (r .held ≡ length (held ++ c))
+    → (partsFrom held (c ∷ d ∷ cs) ≡ take (r .bytes) (held ++ c) ∷ partsFrom (drop (r .bytes) (held ++ c)) (d ∷ cs))
+    × (r .held ≡ length (held ++ c))
 unfolding partsFrom
 part-is-the-next held c d cs r p e = let k = full (held ++ c) r p e in (rw (k .1), k .0)
 

@@ -15,7 +15,7 @@ unfoldable pub joinedUp : List (List ℕ) → List ℕ
 joinedUp [] = []
 joinedUp (c ∷ cs) = c ++ joinedUp cs
 
--- the parts of a file of which `held` is held when these chunks are still to come: with each chunk as much of what is then held as is settled; with the last one,
+-- the parts of a file of which `held` is held when these chunks are still to come: with each chunk as much of what is then held as is settled; with the last,
 -- with which the end of the file is known, all of it
 unfoldable pub partsFrom : List ℕ → List (List ℕ) → List (List ℕ)
 partsFrom held [] = held ∷ []

@@ -42,8 +42,10 @@ in-parts = refl
 abbrev did : ℕ → ℕ → ℕ → ℕ → ℕ → Share
 did r n w c p = record { verdict = Accepted; resume = r; records = n; written = w; reclaimed = c; passed = p }
 
--- the whole of it, with more than it takes and with just enough; a budget that ends at the seam, one that ends within a part, behind a byte that is passed over, and one that holds no record
-shares : sharedBy 99 (parts chunks) ∷ sharedBy 22 (parts chunks) ∷ sharedBy 8 (parts chunks) ∷ sharedBy 21 (parts chunks) ∷ sharedBy 7 (parts chunks) ∷ []
+-- the whole of it, with more than it takes and with just enough; a budget that ends at the seam, one that ends within a part, behind a byte that is passed
+-- over, and one that holds no record
+shares : sharedBy 99 (parts chunks) ∷ sharedBy 22 (parts chunks) ∷ sharedBy 8 (parts chunks) ∷ sharedBy 21 (parts chunks)
+    ∷ sharedBy 7 (parts chunks) ∷ []
     ≡ did 25 3 22 1 2 ∷ did 25 3 22 1 2 ∷ did 9 1 8 1 0 ∷ did 17 2 15 1 1 ∷ did 0 0 0 0 0 ∷ []
 unfolding sharedBy shareOf partsFrom settled settledIn done stop account packetLength packetAt before recordFrom nextRecord recordBytes readingsIn spelling
     compactOf shorter unpadPacket read duration header compact lengthField

@@ -21,8 +21,9 @@ moved-down b h k inside less =
     let long : length q ≡ h - k = length-part b k (h - k) (omega arith) in
     rw (long) at (take-sets b q (omega (arith, long))) ∙ sym (drop-take k h b)
 
--- ---- 1. Where all of a part is said to be the same, and what is left in the buffer, with what follows, goes on with the parts that follow, then what was held,
--- with what follows, goes on with this part and those: so `same` says so of a whole file only where `seen-is-faithful` (sameness/proofs/Promises.antt) does.
+-- ---- 1. Where all of a part is said to be the same, and what is left in the buffer, with what follows, goes on with the parts that follow, then what was
+-- held, with what follows, goes on with this part and those: so `same` says so of a whole file only where `seen-is-faithful`
+-- (sameness/proofs/Promises.antt) does.
 pub part-is-followed : (p after more : List ℕ) (ps : List (List ℕ)) (r : Match) (l : Looked (recordsOf p) after r) → r .same ≡ true
     → Followed ps (take (r .held) after ++ more) → Followed (p ∷ ps) (take (l .held) (l .buffer) ++ more)
 part-is-followed p after more ps r l e f =
