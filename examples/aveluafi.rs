@@ -39,6 +39,8 @@ pub enum Refusal {
     OrderTooLong {
         position: u32,
     },
+    /// Streams to be joined, or those of a packet, do not last equally long.
+    UnequalTimes,
     /// A number that this file does not know: the archive that was linked is of another version.
     Unknown(i32),
 }
@@ -49,7 +51,7 @@ impl Refusal {
         match self {
             Refusal::BadArg | Refusal::BadOrder { .. } => -1,
             Refusal::BufferTooSmall | Refusal::OrderTooLong { .. } => -2,
-            Refusal::InvalidPacket | Refusal::Unreadable { .. } => -4,
+            Refusal::InvalidPacket | Refusal::Unreadable { .. } | Refusal::UnequalTimes => -4,
             Refusal::InvalidState => -6,
             Refusal::DirtyPadding => -20,
             Refusal::OverBudget => -21,
@@ -70,6 +72,7 @@ impl fmt::Display for Refusal {
             Refusal::OverBudget => write!(f, "over budget: the next record alone is longer than it"),
             Refusal::BadOrder { position } => write!(f, "order {position}: no range of the frames held"),
             Refusal::OrderTooLong { position } => write!(f, "order {position}: destination too small"),
+            Refusal::UnequalTimes => write!(f, "invalid packet: the streams do not last equally long"),
             Refusal::Unknown(number) => write!(f, "refused by {number}, a number of another version"),
         }
     }
@@ -232,6 +235,15 @@ extern "C" {
     ) -> OrderReport;
     fn aveluafi_packet_pad(data: *mut u8, data_len: usize, len: i32, new_len: i32) -> Report;
     fn aveluafi_packet_unpad(data: *mut u8, data_len: usize, len: i32) -> Report;
+    fn aveluafi_multistream_join(
+        data: *const u8,
+        data_len: usize,
+        lengths: *const u16,
+        lengths_len: usize,
+        dst: *mut u8,
+        dst_len: usize,
+    ) -> Report;
+    fn aveluafi_multistream_take(data: *const u8, data_len: usize, nb_streams: i32, k: i32, dst: *mut u8, dst_len: usize) -> Report;
     fn aveluafi_next_record(data: *const u8, data_len: usize, start: usize) -> RawRecord;
     fn aveluafi_compact(data: *const u8, data_len: usize, start: usize, dst: *mut u8, dst_len: usize, budget: usize) -> RawShare;
 }
@@ -268,6 +280,22 @@ pub fn pad(data: &mut [u8], len: usize) -> Result<(), Refusal> {
 /// Strips the padding of the packet that fills `data`, and answers the bytes that are left in its front.
 pub fn unpad(data: &mut [u8]) -> Result<usize, Refusal> {
     reported(unsafe { aveluafi_packet_unpad(data.as_mut_ptr(), data.len(), length(data.len())) })
+}
+
+// Of streams an invalid packet is one whose streams do not last equally long.
+fn timed(r: Report) -> Result<usize, Refusal> {
+    reported(r).map_err(|refusal| if refusal == Refusal::InvalidPacket { Refusal::UnequalTimes } else { refusal })
+}
+
+/// Joins ordinary packets of these lengths, 1 to 255, which lie one behind another in `packets`, into one multistream packet at the front of `dst`, and answers
+/// its bytes.
+pub fn join(packets: &[u8], lengths: &[u16], dst: &mut [u8]) -> Result<usize, Refusal> {
+    timed(unsafe { aveluafi_multistream_join(packets.as_ptr(), packets.len(), lengths.as_ptr(), lengths.len(), dst.as_mut_ptr(), dst.len()) })
+}
+
+/// Takes stream `k`, from 0, out of a multistream packet of so many streams: its ordinary packet at the front of `dst`, of which it answers the bytes.
+pub fn take(data: &[u8], streams: usize, k: usize, dst: &mut [u8]) -> Result<usize, Refusal> {
+    timed(unsafe { aveluafi_multistream_take(data.as_ptr(), data.len(), length(streams), length(k), dst.as_mut_ptr(), dst.len()) })
 }
 
 /// Judges a packet; what stands behind a self-delimited one is no part of it.

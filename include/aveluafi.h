@@ -47,9 +47,10 @@ int32_t aveluafi_version(void);
 #define AVELUAFI_OK 0                 /* added, padded, nothing to pad */
 #define AVELUAFI_BAD_ARG (-1)         /* an argument outside its bound; an empty packet for samples, frame count, pad or unpad; a range that is not
                                          0 <= begin < end <= frames held; a packet number not held; a store under 61,200 bytes; over 48 cut orders; a start
-                                         past a capture's end */
+                                         past a capture's end; lengths that do not sum to what is joined; a stream that is none of a packet's */
 #define AVELUAFI_BUFFER_TOO_SMALL (-2) /* the output, or the budget of a share, is longer than the destination */
-#define AVELUAFI_INVALID_PACKET (-4)  /* the packet breaks a rule of RFC 6716; its upper six TOC bits are not those held; over 120 ms held */
+#define AVELUAFI_INVALID_PACKET (-4)  /* the packet breaks a rule of RFC 6716; its upper six TOC bits are not those held; over 120 ms held;
+                                         streams that do not last equally long */
 #define AVELUAFI_INVALID_STATE (-6)   /* the collector was not made by these calls, or was written over */
 #define AVELUAFI_DIRTY_PADDING (-20)  /* a strict add: a padding byte is not zero */
 #define AVELUAFI_OVER_BUDGET (-21)    /* a share of compaction: the next record alone, rewritten, is longer than the budget */
@@ -241,6 +242,27 @@ struct aveluafi_report aveluafi_multistream_packet_pad(uint8_t *data, size_t dat
 
 /* Every stream is brought into its shortest form; answers the bytes of all. All streams are read before the first is rewritten. */
 struct aveluafi_report aveluafi_multistream_packet_unpad(uint8_t *data, size_t data_len, int32_t len, int32_t nb_streams);
+
+/* ---- streams joined and taken apart
+ *
+ * A multistream packet has one packet of each stream, all but the last self-delimited, and its streams last equally long (RFC 7845, section 3), whatever their
+ * configurations: the time of a stream is its frames, empty ones too, times the samples of one. Every stream is read before the first byte is written.
+ *
+ * Order of refusals: -1; -4 with rule and place for the first stream that cannot be read, the place counted from the first byte of data; -4 without a rule
+ * where the streams do not last equally long; -2. */
+
+#define AVELUAFI_MOST_STREAMS 255
+
+/* Joins the packets, 1 to 255 ordinary ones of these lengths, which lie one behind another in data, into one multistream packet at the front of dst: each in
+ * its shortest form. Answers its bytes. -1 for no packet or more than 255, for data or dst above 65,535 bytes, and where the lengths do not sum to data_len.
+ * An empty packet is one that cannot be read. Joined, packets can be longer by two bytes each but the last: -2 can come with the longest destination. */
+struct aveluafi_report aveluafi_multistream_join(const uint8_t *data, size_t data_len, const uint16_t *lengths, size_t lengths_len, uint8_t *dst,
+                                                 size_t dst_len);
+
+/* Takes stream k, from 0, out of the multistream packet of nb_streams, 1 to 255, that fills data: its packet in ordinary form, the shortest, at the front of
+ * dst. Answers its bytes. -1 for another number of streams, a k that is none of them, and for data or dst above 65,535 bytes. A stream behind k that cannot be
+ * read or lasts another time is refused as one before it. */
+struct aveluafi_report aveluafi_multistream_take(const uint8_t *data, size_t data_len, int32_t nb_streams, int32_t k, uint8_t *dst, size_t dst_len);
 
 /* ---- capture files
  *

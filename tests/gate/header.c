@@ -264,6 +264,68 @@ static void in_place(void) {
     reports("multistream_packet_unpad broken", aveluafi_multistream_packet_unpad(streams, 5, 4, 2), AVELUAFI_INVALID_PACKET, 5, 4);
 }
 
+static uint8_t joint[512];
+
+/* joins packets into a destination of room bytes that was 238 throughout; expected is what its front must hold */
+static void joins(const char *what, const uint8_t *data, size_t bytes, const uint16_t *lengths, size_t n, size_t room, struct aveluafi_report must,
+                  const uint8_t *expected) {
+    for (size_t i = 0; i < sizeof joint; i++)
+        joint[i] = 238;
+    reports(what, aveluafi_multistream_join(data, bytes, lengths, n, joint, room), must.number, must.rule, must.place);
+    size_t wrong = 0;
+    for (size_t i = 0; i < sizeof joint; i++)
+        wrong += joint[i] != (must.number > 0 && i < (size_t)must.number ? expected[i] : 238);
+    is(what, (long)wrong, 0);
+}
+
+/* the same of a stream taken out */
+static void takes(const char *what, const uint8_t *data, size_t bytes, int32_t streams, int32_t k, size_t room, struct aveluafi_report must,
+                  const uint8_t *expected) {
+    for (size_t i = 0; i < sizeof joint; i++)
+        joint[i] = 238;
+    reports(what, aveluafi_multistream_take(data, bytes, streams, k, joint, room), must.number, must.rule, must.place);
+    size_t wrong = 0;
+    for (size_t i = 0; i < sizeof joint; i++)
+        wrong += joint[i] != (must.number > 0 && i < (size_t)must.number ? expected[i] : 238);
+    is(what, (long)wrong, 0);
+}
+
+static void streams(void) {
+    typedef struct aveluafi_report report;
+    const report bad = {AVELUAFI_BAD_ARG, 0, 0}, unequal = {AVELUAFI_INVALID_PACKET, 0, 0}, small = {AVELUAFI_BUFFER_TOO_SMALL, 0, 0};
+    static const uint8_t two[] = {0, 0xAA, 0, 0xBB, 0xCC}, joined[] = {0, 1, 0xAA, 0, 0xBB, 0xCC};
+    joins("join", two, 5, (const uint16_t[]){2, 3}, 2, sizeof joint, (report){6, 0, 0}, joined);
+    joins("join exactly", two, 5, (const uint16_t[]){2, 3}, 2, 6, (report){6, 0, 0}, joined);
+    joins("join into 5", two, 5, (const uint16_t[]){2, 3}, 2, 5, small, NULL);
+    joins("join a short sum", two, 5, (const uint16_t[]){2, 2}, 2, sizeof joint, bad, NULL);
+    joins("join a long sum", two, 5, (const uint16_t[]){2, 4}, 2, sizeof joint, bad, NULL);
+    joins("join none", two, 0, NULL, 0, sizeof joint, bad, NULL);
+    /* 20 ms by two frames and by one */
+    static const uint8_t times[] = {1, 0xAA, 0xBB, 8, 0xCC}, both[] = {1, 1, 0xAA, 0xBB, 8, 0xCC};
+    joins("join two configurations", times, 5, (const uint16_t[]){3, 2}, 2, sizeof joint, (report){6, 0, 0}, both);
+    joins("join other times", (const uint8_t[]){0, 0xAA, 8, 0xBB}, 4, (const uint16_t[]){2, 2}, 2, sizeof joint, unequal, NULL);
+    joins("join an unreadable one", (const uint8_t[]){0, 0xAA, 3, 0, 1, 0xAA}, 6, (const uint16_t[]){2, 2, 2}, 3, sizeof joint,
+          (report){AVELUAFI_INVALID_PACKET, 5, 3}, NULL);
+    joins("join an empty one", two, 2, (const uint16_t[]){2, 0}, 2, sizeof joint, (report){AVELUAFI_INVALID_PACKET, 1, 2}, NULL);
+    /* an ordinary packet without a byte in its frame, 256 times */
+    static const uint8_t empties[256];
+    static uint16_t ones[256];
+    static uint8_t all[509];
+    for (size_t i = 0; i < 256; i++)
+        ones[i] = 1;
+    joins("join 255", empties, 255, ones, 255, 509, (report){509, 0, 0}, all);
+    joins("join 256", empties, 256, ones, 256, 511, bad, NULL);
+    takes("take the first", joined, 6, 2, 0, sizeof joint, (report){2, 0, 0}, two);
+    takes("take the last", joined, 6, 2, 1, 3, (report){3, 0, 0}, two + 2);
+    takes("take into 2", joined, 6, 2, 1, 2, small, NULL);
+    takes("take stream 2 of 2", joined, 6, 2, 2, 0, bad, NULL);
+    takes("take stream -1", joined, 6, 2, -1, 0, bad, NULL);
+    takes("take of no stream", joined, 6, 0, 0, 0, bad, NULL);
+    takes("take of 256 streams", joined, 6, 256, 0, 0, bad, NULL);
+    takes("take of other times", (const uint8_t[]){0, 1, 0xAA, 8, 0xBB}, 5, 2, 0, 0, unequal, NULL);
+    takes("take before an unreadable one", (const uint8_t[]){0, 1, 0xAA, 3}, 4, 2, 0, 0, (report){AVELUAFI_INVALID_PACKET, 5, 4}, NULL);
+}
+
 static void judging(void) {
     static const uint8_t dirty[] = {3, 0x41, 1, 0xAA, 7}, longer[] = {3, 0x41, 1, 0xAA, 0}, self[] = {0, 1, 0xAA, 0x55, 0x66};
     struct aveluafi_verdict v = aveluafi_packet_judge(packet, 3, false);
@@ -421,6 +483,9 @@ static void nothing(void) {
     is("NULL packet_unpad", aveluafi_packet_unpad(NULL, 0, 1).number, AVELUAFI_BAD_ARG);
     is("NULL multistream_packet_pad", aveluafi_multistream_packet_pad(NULL, 0, 1, 2, 1).number, AVELUAFI_BAD_ARG);
     is("NULL multistream_packet_unpad", aveluafi_multistream_packet_unpad(NULL, 0, 1, 1).number, AVELUAFI_BAD_ARG);
+    is("NULL multistream_join", aveluafi_multistream_join(NULL, 0, NULL, 0, NULL, 0).number, AVELUAFI_BAD_ARG);
+    is("NULL multistream_join of no byte", aveluafi_multistream_join(NULL, 0, (const uint16_t[]){0}, 1, NULL, 0).number, AVELUAFI_INVALID_PACKET);
+    is("NULL multistream_take", aveluafi_multistream_take(NULL, 0, 1, 0, NULL, 0).number, AVELUAFI_INVALID_PACKET);
     struct aveluafi_record r = aveluafi_next_record(NULL, 0, 0);
     is("NULL next_record", r.number == 0 && r.place == 0 && r.length == 0 && r.passed == 0, 1);
     tells("NULL compact both", aveluafi_compact(NULL, 0, 0, NULL, 0, 0), 0, 0, 0, 0, 0);
@@ -440,6 +505,7 @@ int main(void) {
     collecting();
     cutting();
     in_place();
+    streams();
     judging();
     captures();
     compacting();

@@ -6,5 +6,6 @@ pub mod compacting;
 pub mod in_place;
 pub mod judging;
 pub mod reading;
+pub mod streams;
 pub mod version;
 pub mod word;

@@ -9,7 +9,7 @@ use lib.IntN.{pos}
 use lib.ListN.{length, getD, take, drop}
 use lib.Seq.{take-all}
 use Rattle.laws.specs.Bytes.{Bytes}
-use Rattle.opus_defines.specs.Outcome.{leaves}
+use Rattle.opus_defines.specs.Outcome.{leaves, intoRoom}
 use Rattle.opus_toc.specs.Toc.{upperSix}
 use Rattle.opus_format.specs.Frames.{cut}
 use Rattle.opus_format.specs.Reading.{accepted, read, framesOf}
@@ -26,7 +26,6 @@ use Rattle.repacketizer_out.specs.Pieces.{front}
 use Rattle.repacketizer_out.specs.Numbered.{outNumbered}
 use Rattle.repacketizer_out.proofs.Brought.{came-at}
 use Rattle.repacketizer_out.proofs.NumberPromises.{output-of-a-packet}
-use Rattle.borders.specs.Room.{intoRoom}
 
 -- what unpadding leaves in front of a packet that lies in a buffer of its own length
 unpadded-front : (p : List ℕ) → Bytes p → length p ≤ 65535 → (toc : ℕ) (ns : List ℕ) (first end : ℕ)

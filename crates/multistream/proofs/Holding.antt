@@ -1,5 +1,6 @@
 -- What a readable multistream packet holds, and that its rewritten forms hold the same.
 --     Held, held        its first stream, and those behind it
+--     spelled-streams   what is spelled reads as its stream, and then what stands behind it
 --     exchanged         any bytes that spell that stream may take its place
 --     readable-some     it is not empty
 --     repack-compact    unpad writes the compact packets of its streams,
@@ -61,7 +62,7 @@ held sd next p xs e = go (read sd p) refl e
             record { toc = toc; ns = ns; first = first; taken = taken; means = r; others = ys; rest = q; all = cc }
 
 -- what is spelled reads as its stream, and then what stands behind it
-spelled-streams : {sd : Bool} {six : ℕ} {c : List ℕ} {frames : List (List ℕ)} (w : Spells sd six c frames) (rest : List ℕ) → Behind sd rest
+pub spelled-streams : {sd : Bool} {six : ℕ} {c : List ℕ} {frames : List (List ℕ)} (w : Spells sd six c frames) (rest : List ℕ) → Behind sd rest
     → (next : List ℕ → Streams) → thenStreams next (c ++ rest) (read sd (c ++ rest)) ≡ andStreams (record { six = six; frames = frames }) (next rest)
 unfolding framesOf
 spelled-streams {c = c} w rest b next =

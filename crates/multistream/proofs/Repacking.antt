@@ -1,5 +1,5 @@
 -- A stream that is rewritten in compact form further to the front, and the loop over all streams.
---     lent-read                                     one stream: the reader's answer, with its lengths in a lent array
+--     accepted-verdict, lent-read                   one stream: the reader's answer, with its lengths in a lent array
 --     lying, taken-fits, rewrite-fits, rewritten    how it lies, and what its rewrite needs and leaves
 --     Repacking                                     what the loop keeps: the streams so far stand in compact form at the front, and the
 --                                                   unread ones are as they were
@@ -45,7 +45,7 @@ use Rattle.multistream.proofs.Passing.{shifted-none, shifted-more, shif
 use Rattle.blocks.proofs.LentParts.{sets-lent}
 
 -- ---- one stream
-accepted-verdict : (sd : Bool) (p : List ℕ) (r : Packet) → r ≡ parsed sd p → length p ≤ 65535 → isAccepted (read sd p) ≡ true
+pub accepted-verdict : (sd : Bool) (p : List ℕ) (r : Packet) → r ≡ parsed sd p → length p ≤ 65535 → isAccepted (read sd p) ≡ true
     → r .verdict ≡ Accepted
 unfolding parsed
 accepted-verdict sd p r e h ok = go (read sd p) (rw (le-ltb 65535 (length p) h) at e) ok

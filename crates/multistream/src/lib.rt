@@ -54,7 +54,7 @@ fn further_on(p: Passed, by: usize) -> Passed
 }
 
 // Reads the first k streams, which are self-delimited.
-fn pass_streams(data: &[u8], k: usize) -> Passed
+pub fn pass_streams(data: &[u8], k: usize) -> Passed
     requires { ⌜ length (now «data») ≤ 65535 ⌝ }
     ensures { λ r. ⌜ r ≡ passStreams k (now («data» .entry)) ⌝ }
 {
@@ -112,7 +112,7 @@ fn pad_streams(data: &mut [u8], len: usize, new_len: usize, streams: usize) -> A
 }
 
 // 1 to 255 streams; 0 for any other number.
-fn streams_of(nb_streams: i32) -> usize
+pub fn streams_of(nb_streams: i32) -> usize
     ensures { λ r. ⌜ r ≡ streamsOf «nb_streams» ⌝ }
 {
     let Count::Is(n) = opus_defines::count_of(nb_streams) else {

@@ -6,9 +6,9 @@ use lib.Dec.{ltb, eqb}
 use lib.IntN.{ℤ, pos, negsuc}
 use lib.ListN.{length, drop}
 use Rattle.opus_defines.specs.Numbers.{verdictNumber}
-use Rattle.opus_defines.specs.Outcome.{Effect, refusal, written, Outcome, leaves}
+use Rattle.opus_defines.specs.Outcome.{Effect, refusal, intoRoom, Outcome, leaves}
 use Rattle.opus_defines.specs.declared.Refusal.{Refusal}
-use Rattle.opus_defines.specs.declared.Refusal.the-variants.{BadArg, BufferTooSmall, CutShort}
+use Rattle.opus_defines.specs.declared.Refusal.the-variants.{BadArg, CutShort}
 use Rattle.opus_defines.specs.declared.Rule.{Rule}
 use Rattle.opus_defines.specs.declared.Rule.the-variants.{R4, R7, R8}
 use Rattle.opus_defines.specs.declared.Verdict.the-variants.{Accepted, Refused}
@@ -21,9 +21,7 @@ use Rattle.opus_size.specs.declared.SizeAt.the-variants.{Whole, Short}
 abbrev pub encodes : ℤ → ℕ → Effect
 encodes (negsuc n) room = refusal BadArg
 encodes (pos n) room =
-    cond (ltb mostBytes n) (refusal BadArg)
-    (cond (ltb room (length (lengthField n))) (refusal BufferTooSmall)
-    (written (lengthField n)))
+    cond (ltb mostBytes n) (refusal BadArg) (intoRoom (lengthField n) room)
 
 unfoldable pub encodeSize : ℤ → List ℕ → Outcome
 encodeSize x s = leaves s (encodes x (length s))

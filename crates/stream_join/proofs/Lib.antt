@@ -1,0 +1,9 @@
+pub mod Looked
+pub mod Surveyed
+pub mod Putting
+pub mod Joining
+pub mod Taking
+pub mod Apart
+pub mod Refusing
+pub mod Promises
+pub mod Examples
