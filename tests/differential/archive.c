@@ -263,6 +263,105 @@ static int cut(Cuts *c) {
     return 1;
 }
 
+// ---- streams joined and taken apart
+
+static Bytes copy(const unsigned char *at, int32_t len) {
+    Bytes b = block(len, 0);
+    memcpy(b.at, at, len);
+    return b;
+}
+
+// All streams of a packet that was accepted, one behind another, and their lengths.
+static Bytes taken_apart(Bytes p, int streams, uint16_t *lengths) {
+    Bytes parts = block(p.len, 0xee);
+    int32_t at = 0;
+    for (int k = 0; k < streams; k++) {
+        struct aveluafi_report r = aveluafi_multistream_take(p.at, p.len, streams, k, parts.at + at, parts.len - at);
+        require(r.number > 0, "aveluafi_multistream_take: a stream of an accepted packet is refused");
+        lengths[k] = r.number;
+        at += r.number;
+    }
+    parts.len = at;
+    return parts;
+}
+
+// The parts, joined again, are these bytes.
+static void require_joined(Bytes parts, const uint16_t *lengths, int streams, Bytes whole, const char *what) {
+    Bytes again = block(whole.len, 0xee);
+    struct aveluafi_report r = aveluafi_multistream_join(parts.at, parts.len, lengths, streams, again.at, again.len);
+    require(r.number == whole.len && memcmp(again.at, whole.at, whole.len) == 0, what);
+    free(again.at);
+}
+
+// Each stream of the packet that was joined is what unpadding the packet that was given leaves; and they can be joined again.
+static void agree_apart(const Streams *s) {
+    Bytes whole = {s->out.at, s->number};
+    uint16_t lengths[AVELUAFI_MOST_STREAMS];
+    Bytes parts = taken_apart(whole, s->count, lengths);
+    int32_t from = 0, at = 0;
+    for (int i = 0; i < s->count; i++) {
+        Bytes alone = copy(s->data.at + from, s->lengths[i]);
+        int32_t n = aveluafi_packet_unpad(alone.at, alone.len, alone.len).number;
+        require(n == lengths[i] && memcmp(alone.at, parts.at + at, n) == 0, "aveluafi_multistream_take is not what unpadding the joined packet gives");
+        free(alone.at);
+        from += s->lengths[i];
+        at += n;
+    }
+    require_joined(parts, lengths, s->count, whole, "aveluafi_multistream_join: the streams taken out, joined again, are other bytes");
+    free(parts.at);
+}
+
+// All streams of the packet, joined, are what unpadding it leaves; the one that was asked for is among them.
+static void agree_unpadded(const Streams *s) {
+    uint16_t lengths[AVELUAFI_MOST_STREAMS];
+    Bytes parts = taken_apart(s->data, s->streams, lengths), whole = copy(s->data.at, s->data.len);
+    whole.len = aveluafi_multistream_packet_unpad(whole.at, whole.len, whole.len, s->streams).number;
+    require_joined(parts, lengths, s->streams, whole, "aveluafi_multistream_join: the streams of a packet, joined, are not what unpadding it gives");
+    int32_t at = 0;
+    for (int k = 0; k < s->k; k++) {
+        at += lengths[k];
+    }
+    require(s->number == lengths[s->k] && memcmp(s->out.at, parts.at + at, s->number) == 0, "aveluafi_multistream_take: other bytes into another room");
+    free(parts.at);
+    free(whole.at);
+}
+
+// A call is lent a destination that goes on behind its room, and must leave that, and the packets and their lengths as well.
+static void ask_streams(Streams *s, bool join) {
+    enum { BEHIND = 9 };
+    Bytes data = copy(s->data.at, s->data.len), lengths = copy((unsigned char *)s->lengths, sizeof s->lengths), out = block(s->out.len + BEHIND, 0xdd);
+    memcpy(out.at, s->out.at, s->out.len);
+    struct aveluafi_report r = join ? aveluafi_multistream_join(s->data.at, s->data.len, s->lengths, s->count, out.at, s->out.len)
+                                    : aveluafi_multistream_take(s->data.at, s->data.len, s->streams, s->k, out.at, s->out.len);
+    require_report(r.number, r.rule, r.place, s->data.len);
+    require(memcmp(data.at, s->data.at, data.len) == 0, "streams: the packets have changed");
+    require(memcmp(lengths.at, s->lengths, lengths.len) == 0, "streams: the lengths have changed");
+    for (int i = 0; i < BEHIND; i++) {
+        require(out.at[s->out.len + i] == 0xdd, "streams: a call has written behind the destination");
+    }
+    memcpy(s->out.at, out.at, s->out.len);
+    s->number = r.number;
+    s->rule = r.rule;
+    s->place = r.place;
+    free(data.at);
+    free(lengths.at);
+    free(out.at);
+}
+
+static void join(Streams *s) {
+    ask_streams(s, true);
+    if (s->number >= 0) {
+        agree_apart(s);
+    }
+}
+
+static void take(Streams *s) {
+    ask_streams(s, false);
+    if (s->number >= 0) {
+        agree_unpadded(s);
+    }
+}
+
 static void start(int argc, char **argv) {
     (void)argc;
     (void)argv;

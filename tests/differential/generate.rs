@@ -3,6 +3,7 @@
 // `generate strict SEED COUNT`: adds of kind 18, strict and ordinary, of packets with clean padding and with dirty.
 // `generate numbers SEED COUNT`: kinds 19 and 20, on collectors with packet numbers.
 // `generate orders SEED COUNT`: kind 21, lists of cut orders.
+// `generate streams SEED COUNT`: kinds 22 and 23, packets to be joined and multistream packets to be taken apart.
 // `generate stages SEED COUNT` writes so many packets to be padded in two steps (tests/stages). The same seed and count give the same bytes.
 use std::io::Write;
 
@@ -955,6 +956,278 @@ fn orders_case(r: &mut Random, out: &mut Vec<u8>) {
     }
 }
 
+// ---- streams joined and taken apart
+
+// A packet, and the bytes of its compact form in the delimiting that it will have.
+struct Stream {
+    bytes: Vec<u8>,
+    compact: usize,
+}
+
+// The delimitings of a stream: of the packet in the case, and of its compact form in the answer.
+#[derive(Clone, Copy)]
+struct Delims {
+    given: bool,
+    made: bool,
+}
+
+// A packet of exactly so many frames, of at most so many bytes each.
+fn stream_of(r: &mut Random, d: Delims, (six, count): (u8, usize), bytes: usize) -> Stream {
+    let same = r.chance(50);
+    let code = match count {
+        1 => r.pick(&[0, 0, 0, 3]),
+        2 if same => r.pick(&[1, 1, 2, 3]),
+        2 => r.pick(&[2, 2, 3]),
+        _ => 3,
+    };
+    let first = frame_length(r).min(bytes);
+    let lens: Vec<usize> = (0..count).map(|_| if same { first } else { frame_length(r).min(bytes) }).collect();
+    // equal lengths can be written like unequal ones
+    let unequal = code == 2 || (code == 3 && (!same || r.chance(30)));
+    let pad = (code == 3 && r.chance(35)).then(|| r.pick(&[0, 0, 1, 2, 6, 253, 254, 255, 256, 509]));
+    let mut p = vec![six | code];
+    if code == 3 {
+        p.push(count as u8 | if pad.is_some() { 0x40 } else { 0 } | if unequal { 0x80 } else { 0 });
+    }
+    if let Some(n) = pad {
+        chain(&mut p, r, n);
+    }
+    if unequal {
+        lens[..count - 1].iter().for_each(|n| field(&mut p, *n));
+    }
+    if d.given {
+        field(&mut p, lens[count - 1]);
+    }
+    p.extend(r.bytes(lens.iter().sum()));
+    let dirt = if r.chance(80) { 0 } else { r.byte() };
+    p.resize(p.len() + pad.unwrap_or(0), dirt);
+    Stream { bytes: p, compact: compact(&lens, d.made) }
+}
+
+// A configuration, with the stereo bit, of which some frames last so long, and how many do.
+fn lasting(r: &mut Random, time: usize) -> (u8, usize) {
+    loop {
+        let six = r.byte() & 0xfc;
+        if time % samples(six) == 0 && time / samples(six) <= 48 {
+            return (six, time / samples(six));
+        }
+    }
+}
+
+// Another duration: one frame less or more, half or twice as long, or any; now and then the same after all.
+fn lasting_otherwise(r: &mut Random, time: usize) -> (u8, usize) {
+    let (six, count) = lasting(r, time);
+    match r.below(4) {
+        0 if count > 1 => (six, count - 1),
+        1 if (count + 1) * samples(six) <= 5760 => (six, count + 1),
+        2 => (six ^ 8, count.min(5760 / samples(six ^ 8))),
+        _ => (0x98, r.between(1, 6)),
+    }
+}
+
+// How many streams: a few, more often than not.
+fn stream_count(r: &mut Random) -> usize {
+    match r.below(40) {
+        0..=3 => 1,
+        4 if r.chance(25) => 254,
+        5 if r.chance(25) => 255,
+        6 => r.between(21, 100),
+        7..=10 => r.between(7, 20),
+        _ => r.between(2, 6),
+    }
+}
+
+// Streams that last equally long; of every four lists one has a stream that lasts longer or shorter, or that cannot be read. To be joined, all are
+// ordinary; to be taken apart, the last.
+fn streams_alike(r: &mut Random, n: usize, join: bool) -> Vec<Stream> {
+    // the times of one frame and of many, 120 ms, and some that only a few configurations have; of many streams a short one, since all stands in the line
+    let time = if n > 20 { r.pick(&[120, 240, 480, 960]) } else { r.pick(&[120, 240, 480, 960, 960, 1920, 2880, 1440, 3840, 5760, 360, 600, 4800]) };
+    let bytes = if n > 20 { r.pick(&[0, 1, 3]) } else { r.pick(&[0, 3, 3, 20, 20, 60, 300, 1275]) };
+    let delims = |i: usize| Delims { given: !join && i + 1 < n, made: join && i + 1 < n };
+    let mut all: Vec<Stream> = Vec::new();
+    for i in 0..n {
+        let frames = lasting(r, time);
+        all.push(stream_of(r, delims(i), frames, bytes));
+    }
+    let at = match r.below(4) {
+        0 => 0,
+        1 | 2 => n - 1,
+        _ => r.below(n),
+    };
+    match r.below(24) {
+        0 | 1 => {
+            let frames = lasting_otherwise(r, time);
+            all[at] = stream_of(r, delims(at), frames, bytes);
+        }
+        2 => all[at].bytes = broken(r, delims(at).given, None),
+        // two, of which the first counts
+        3 => {
+            for i in [at, r.below(n)] {
+                all[i].bytes = broken(r, delims(i).given, None);
+            }
+        }
+        4 => {
+            let kept = r.below(all[at].bytes.len() + 1);
+            all[at].bytes.truncate(kept);
+        }
+        5 if r.chance(50) => all[at].bytes.clear(),
+        5 => {
+            let more = r.between(1, 3);
+            all[at].bytes.extend(r.bytes(more));
+        }
+        _ => {}
+    }
+    all
+}
+
+// Packets of one long frame each, of so many bytes in all; joined they are longer by two each but the last.
+fn long_streams(r: &mut Random, bytes: usize, join: bool) -> Vec<Stream> {
+    let (mut all, mut left) = (Vec::new(), bytes);
+    while left > 0 {
+        let n = if r.chance(50) { 1275 } else { r.between(1200, 1275) }.min(left - 1);
+        let last = n + 1 == left;
+        let mut p = vec![0x98 | r.pick(&[0, 4])];
+        if !join && !last {
+            field(&mut p, n);
+        }
+        p.extend(vec![all.len() as u8; n]);
+        left -= 1 + n;
+        all.push(Stream { bytes: p, compact: compact(&[n], join && !last) });
+    }
+    all
+}
+
+fn bytes_of(all: &[Stream]) -> Vec<u8> {
+    all.iter().flat_map(|s| s.bytes.clone()).collect()
+}
+
+// A room for an answer of this size: exact, one beside, none, or the longest.
+fn streams_room(r: &mut Random, size: usize) -> usize {
+    let n = match r.below(40) {
+        0..=18 => size,
+        19..=22 => size.saturating_sub(1),
+        23..=28 => size + 1,
+        29 if r.chance(50) => 0,
+        30 => r.below(size + 1),
+        31 if r.chance(4) => 65535,
+        32 if r.chance(8) => 65536,
+        _ => size + r.between(1, 40),
+    };
+    n.min(65536)
+}
+
+fn put_join(out: &mut Vec<u8>, room: usize, lens: &[u16], data: &[u8]) {
+    out.push(22);
+    put(out, room as i32);
+    out.extend((lens.len() as u16).to_le_bytes());
+    lens.iter().for_each(|n| out.extend(n.to_le_bytes()));
+    put_bytes(out, data);
+}
+
+// Of 65,535 bytes, one more or less, or so many that they are 65,535 or a little more or less once they are joined.
+fn long_join(r: &mut Random, out: &mut Vec<u8>) {
+    let given = match r.below(4) {
+        0 => r.pick(&[65534, 65535, 65536]),
+        _ => r.between(65429, 65435),
+    };
+    let all = long_streams(r, given, true);
+    let lens: Vec<u16> = all.iter().map(|s| s.bytes.len() as u16).collect();
+    let size: usize = all.iter().map(|s| s.compact).sum();
+    let room = r.pick(&[65535, 65535, 65534, 65536, size.min(65536), (size - 1).min(65536)]);
+    put_join(out, room, &lens, &bytes_of(&all));
+}
+
+fn join_case(r: &mut Random, out: &mut Vec<u8>) {
+    if r.below(400) == 0 {
+        return long_join(r, out);
+    }
+    let n = stream_count(r);
+    let all = streams_alike(r, n, true);
+    let room = streams_room(r, all.iter().map(|s| s.compact).sum());
+    let mut lens: Vec<u16> = all.iter().map(|s| s.bytes.len().min(65535) as u16).collect();
+    let mut data = bytes_of(&all);
+    let at = r.below(n);
+    match r.below(100) {
+        // lengths that do not sum to the buffer: by one, by 65,536, or by a packet
+        0 => lens[at] = lens[at].wrapping_add(1),
+        1 => lens[at] = lens[at].wrapping_sub(1),
+        2 => data.push(0),
+        3 => {
+            data.pop();
+        }
+        4 => lens.extend([65535, 1]),
+        5 => lens.truncate(n - 1),
+        // that cut it elsewhere
+        6 | 7 if n > 1 => {
+            let k = (r.between(1, 3) as u16).min(lens[at]);
+            lens[at] -= k;
+            lens[(at + 1) % n] += k;
+        }
+        // one of no byte more
+        8 | 9 => lens.insert(r.below(n + 1), 0),
+        // none, with bytes or without; and more than 255, each a packet or some without a byte
+        10 => {
+            lens.clear();
+            data.truncate(r.pick(&[0, 0, 5]));
+        }
+        11 if r.chance(50) => {
+            lens = vec![1; r.pick(&[256, 256, 257, 1023, 1024])];
+            data = vec![0x98; lens.len()];
+        }
+        12 if r.chance(50) => lens.resize(r.pick(&[256, 512, 1024]), 0),
+        _ => {}
+    }
+    data.truncate(65536);
+    put_join(out, room, &lens, &data);
+}
+
+fn take_case(r: &mut Random, out: &mut Vec<u8>) {
+    let all = if r.below(800) == 0 {
+        long_streams(r, 65000, false)
+    } else {
+        let n = stream_count(r);
+        streams_alike(r, n, false)
+    };
+    let n = all.len();
+    let mut p = bytes_of(&all);
+    match r.below(60) {
+        0 | 1 => p.truncate(r.below(p.len() + 1)),
+        2 => p.push(r.byte()),
+        3 if r.chance(5) => p.resize(r.pick(&[65535, 65536]), 0),
+        _ => {}
+    }
+    p.truncate(65536);
+    let said = match r.below(70) {
+        0 => r.pick(&EXTREMES),
+        1 => r.pick(&[0, -1, 255, 256]),
+        2 => n as i32 + 1,
+        3 => n as i32 - 1,
+        _ => n as i32,
+    };
+    let k = match r.below(70) {
+        0 => -1,
+        1 => said,
+        2 => r.pick(&EXTREMES),
+        3 => r.pick(&[254, 255]),
+        4..=14 => said.wrapping_sub(1),
+        15..=25 => 0,
+        _ => r.below(n) as i32,
+    };
+    out.push(23);
+    put(out, said);
+    put(out, k);
+    put(out, streams_room(r, all.get(k as usize).map_or(3, |s| s.compact)) as i32);
+    put_bytes(out, &p);
+}
+
+fn streams_case(r: &mut Random, out: &mut Vec<u8>) {
+    if r.chance(55) {
+        join_case(r, out);
+    } else {
+        take_case(r, out);
+    }
+}
+
 fn place_case(r: &mut Random, out: &mut Vec<u8>) {
     match r.below(20) {
         0..=7 => {
@@ -1120,9 +1393,11 @@ fn main() {
     let strict = words.len() == 3 && words[0] == "strict";
     let numbered = words.len() == 3 && words[0] == "numbers";
     let ordered = words.len() == 3 && words[0] == "orders";
-    let numbers: Option<Vec<u64>> = words[(staged || strict || numbered || ordered || places) as usize..].iter().map(|w| w.parse().ok()).collect();
+    let streamed = words.len() == 3 && words[0] == "streams";
+    let named = staged || strict || numbered || ordered || streamed || places;
+    let numbers: Option<Vec<u64>> = words[named as usize..].iter().map(|w| w.parse().ok()).collect();
     let Some([seed, count]) = numbers.as_deref() else {
-        eprintln!("usage: generate [places | stages | strict | numbers | orders] SEED COUNT | generate [places] short");
+        eprintln!("usage: generate [places | stages | strict | numbers | orders | streams] SEED COUNT | generate [places] short");
         std::process::exit(2);
     };
     // a seed of 0 would stay 0
@@ -1136,6 +1411,8 @@ fn main() {
             number_case(&mut r, &mut out);
         } else if ordered {
             orders_case(&mut r, &mut out);
+        } else if streamed {
+            streams_case(&mut r, &mut out);
         } else if places {
             place_case(&mut r, &mut out);
         } else {

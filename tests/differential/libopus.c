@@ -5,6 +5,8 @@
 // empty packet for samples, 65,535 bytes, 1 to 255 streams). After a refused pad, multistream pad or multistream unpad libopus has moved bytes
 // already, and only the number is compared: the line then has the buffer as it was.
 //
+// Packets joined and streams taken out, of which libopus has no call: streams.h, over its reader and its repacketizer.
+//
 // The word `version` as only argument prints libopus's own version instead.
 #include "protocol.h"
 #include <opus/opus.h>
@@ -16,6 +18,8 @@ opus_int32 opus_repacketizer_out_range_impl(OpusRepacketizer *rp, int begin, int
                                             int pad);
 
 enum { MOST = 65535, FRAME_MOST = 1275 };
+
+#include "streams.h"
 
 static int read_packet(int delim, Bytes p, Packet *packet) {
     unsigned char toc;

@@ -5,7 +5,7 @@
 #include <stdlib.h>
 #include <string.h>
 
-enum { READ_PACKET = 1, COLLECT, PAD, UNPAD, MULTISTREAM_PAD, MULTISTREAM_UNPAD, WRITE_LENGTH, READ_LENGTH, FRAME_COUNT, SAMPLES, MANY_CUTS = 21 };
+enum { READ_PACKET = 1, COLLECT, PAD, UNPAD, MULTISTREAM_PAD, MULTISTREAM_UNPAD, WRITE_LENGTH, READ_LENGTH, FRAME_COUNT, SAMPLES, MANY_CUTS = 21, JOIN, TAKE };
 
 typedef struct {
     unsigned char *at;
@@ -40,6 +40,14 @@ typedef struct {
     uint32_t position;
 } Cuts;
 
+// The case of packets joined, of so many lengths, or of stream k taken out, and what the adapter fills in. Data and lengths are not to be written over.
+typedef struct {
+    Bytes data, out;
+    uint16_t count, lengths[1024];
+    int32_t streams, k;
+    int number, rule, place;
+} Streams;
+
 // Called once, before the first case.
 static void start(int argc, char **argv);
 // Fills in the packet unless it is refused; the number is how many lengths.
@@ -54,6 +62,9 @@ static int frame_count(Bytes p);
 static int samples(Bytes p, int32_t rate);
 // 0 where there is no such call.
 static int cut(Cuts *c);
+// Fill in the destination, and number, rule and place.
+static void join(Streams *s);
+static void take(Streams *s);
 
 // The number of the case being answered, from 1.
 static long case_number;
@@ -143,6 +154,29 @@ static int get_cuts(Cuts *c) {
     }
     c->out = block(room, 0xee);
     return 1;
+}
+
+static int get_join(Streams *s) {
+    int32_t room;
+    if (!get_room(&room) || !get_u16(&s->count) || s->count > 1024) {
+        return 0;
+    }
+    for (int i = 0; i < s->count; i++) {
+        if (!get_u16(&s->lengths[i])) {
+            return 0;
+        }
+    }
+    s->out = block(room, 0xee);
+    return get_bytes(&s->data);
+}
+
+static int get_take(Streams *s) {
+    int32_t room;
+    if (!get_i32(&s->streams) || !get_i32(&s->k) || !get_room(&room)) {
+        return 0;
+    }
+    s->out = block(room, 0xee);
+    return get_bytes(&s->data);
 }
 
 // ---- output
@@ -306,6 +340,19 @@ static int answer(int kind) {
         }
         free(c.store.at);
         free(c.out.at);
+        return 1;
+    }
+    case JOIN:
+    case TAKE: {
+        static Streams s;
+        if (!(kind == JOIN ? get_join(&s) : get_take(&s))) {
+            return 0;
+        }
+        (kind == JOIN ? join : take)(&s);
+        printf("%d %d ", s.number, s.rule);
+        put_number_and(s.place, s.out);
+        free(s.data.at);
+        free(s.out.at);
         return 1;
     }
     default:

@@ -1,5 +1,4 @@
 -- An order's packet put into what the destination has left.
---     compact-room, put-compact      a header and a block are the compact packet
 --     range-room, range-put          of a range of the frames held
 --     Taken, taken                   an order that is not refused has a range of the frames held, and room
 --     passed-fits, .., put-part      what is put into that part is what the single output leaves of the whole
@@ -25,42 +24,15 @@ use Rattle.opus_defines.specs.Outcome.{refusal, written, leaves}
 use Rattle.opus_defines.specs.declared.Refusal.{Refusal}
 use Rattle.opus_defines.specs.declared.Refusal.the-variants.{BadArg, BufferTooSmall}
 use Rattle.opus_format.specs.Frames.{cut, total}
-use Rattle.blocks.specs.Blocks.{copied}
 use Rattle.blocks.proofs.LentParts.{put-back}
 use Rattle.opus_header.specs.Compact.{compact}
-use Rattle.opus_header.specs.Sums.{sumsOf, headerOf}
-use Rattle.opus_header.specs.Forms.{compactForm, compactBytes}
-use Rattle.opus_header.specs.declared.Sums.{Sums}
-use Rattle.opus_header.specs.declared.Form.{Form}
 use Rattle.repacketizer.specs.declared.OpusRepacketizer.{OpusRepacketizer}
 use Rattle.repacketizer.specs.Collector.{held}
 use Rattle.repacketizer_out.specs.Output.{range, outFrames}
 use Rattle.repacketizer_out.proofs.Ranges.{Part}
-use Rattle.repacketizer_out.proofs.Outputs.{output-short, output-fits, output-written}
-use Rattle.repacketizer_out.proofs.Put.{put-block, need-is, put-room, put-plain}
+use Rattle.repacketizer_out.proofs.Outputs.{output-short, output-fits}
 use Rattle.cut_orders.specs.Orders.{natural}
 use Rattle.cut_orders.proofs.Effects.{effect-none, effect-past, effect-within}
-
--- ---- a header and a block
-module _ (six : ℕ) (ns store : List ℕ) (from : ℕ) (dst : List ℕ) (block : from + total ns ≤ length store) {m : Sums} (measured : m ≡ sumsOf ns)
-    (room : length (compact false six (cut ns (drop from store))) ≤ length dst) {form : Form} (chosen : form ≡ compactForm (length ns)) where
-  abbrev packet : List ℕ
-  packet = compact false six (cut ns (drop from store))
-
-  fits : compactBytes (length ns) m false ≤ length dst
-  fits = omega (arith, need-is false false six ns store from dst block measured refl)
-
-  pub compact-room : length (headerOf false six ns form) + total ns ≤ length dst
-  compact-room = put-room false false six ns store from dst block measured refl fits chosen
-
-  pub put-compact : {d d′ : List ℕ} {at : ℕ} → d ≡ sets dst 0 (headerOf false six ns form) → at ≡ length (headerOf false six ns form)
-      → d′ ≡ copied d at store from (m .total)
-      → (at + m .total ≡ length packet) × (d′ ≡ sets dst 0 packet)
-  put-compact {d′ = d′} {at = at} e a c =
-      let b = put-block dst (headerOf false six ns form) store from ns measured e a c in
-      let w = output-written false false six (cut ns (drop from store)) dst room in
-      let p = rw w at (put-plain false false six ns store from dst block measured refl fits chosen (b .0) (b .1) refl) in
-      (let z = p .0 in cc, p .1)
 
 -- ---- a range of the frames held, which stands in the store from a place on
 module _ {rp : OpusRepacketizer} {b e : ℕ} (p : Part rp b e) (store : List ℕ) {from : ℕ} (f : from ≡ total (take b (rp .len))) (six : ℕ) where

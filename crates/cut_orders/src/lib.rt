@@ -9,9 +9,8 @@ ghost use lib.Seq.{sets};
 ghost use Rattle.opus_defines.specs.Numbers.{numberOf};
 ghost use Rattle.opus_defines.specs.Outcome.{refusal, leaves};
 ghost use Rattle.opus_defines.specs.declared.Refusal.{Refusal};
-ghost use Rattle.opus_size.specs.Size.{mostBytes};
 ghost use Rattle.opus_toc.specs.Toc.{upperSix};
-ghost use Rattle.opus_format.specs.Frames.{cut, total, longest};
+ghost use Rattle.opus_format.specs.Frames.{cut, total};
 ghost use Rattle.opus_header.specs.Compact.{compact};
 ghost use Rattle.repacketizer.specs.Collector.{held, leastStore, framed};
 ghost use Rattle.repacketizer.specs.Parts.{collectorOf, bare};
@@ -158,24 +157,7 @@ fn turns_of(m: OrderReport, n: usize) -> usize
     n
 }
 
-// Writes the packet of frames of lengths `ns`, which stand in `store` from a place on, to the front of `data`, which has room for it.
-fn put_frames(data: &mut [u8], toc: u8, ns: &[u16], store: &[u8], from: usize) -> usize
-    requires some { ⌜ (1 ≤ length (now ns)) × (length (now ns) ≤ 48) × (longest (now ns) ≤ mostBytes) ⌝ }
-    requires block { ⌜ from + total (now ns) ≤ length (now store) ⌝ }
-    requires room { ⌜ length (compact false (upperSix toc) (cut (now ns) (drop from (now store)))) ≤ length (now «data») ⌝ }
-    ensures length { λ r. ⌜ r ≡ length (compact false (upperSix toc) (cut (now (ns .entry)) (drop from (now (store .entry))))) ⌝ }
-    ensures bytes { λ _. ⌜ now («data» .exit)
-        ≡ sets (now («data» .entry)) 0 (compact false (upperSix toc) (cut (now (ns .entry)) (drop from (now (store .entry))))) ⌝ }
-{
-    let m = opus_header::sums_of(ns);
-    let bytes = m.total;
-    let form = opus_header::compact_form(ns.len());
-    let at = opus_header::put_header(data, toc, ns, m, form, false);
-    blocks::copy_into(data, at, store, from, bytes);
-    at + bytes
-}
-
-// The same for the frames b..e of a collector.
+// Writes the packet of the frames b..e of a collector to the front of `data`, which has room for it.
 fn put_range(h: Head, len: &[u16], store: &[u8], b: usize, e: usize, data: &mut [u8]) -> usize
     requires collector { ⌜ (length (now len) ≡ 48) × (framed (bare h (now len)) ≡ true) ⌝ }
     requires range { ⌜ (b < e) × (e ≤ h .«nb_frames») ⌝ }
@@ -186,7 +168,7 @@ fn put_range(h: Head, len: &[u16], store: &[u8], b: usize, e: usize, data: &mut 
         ≡ sets (now («data» .entry)) 0 (compact false (upperSix (h .toc)) (range b e (held (bare h (now (len .entry))) (now (store .entry))))) ⌝ }
 {
     let before = repacketizer::measure(&len[..b]);
-    put_frames(data, h.toc, &len[b..e], store, wide(before.total))
+    opus_header::put_compact(data, h.toc, &len[b..e], store, wide(before.total), false)
 }
 
 // The single output of an order that the first pass has not refused, into what the destination has left behind its first `at` bytes; answers its length.

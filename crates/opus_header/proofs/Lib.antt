@@ -9,4 +9,5 @@ pub mod Rebuilt
 pub mod Filling
 pub mod Forms
 pub mod Standing
+pub mod Behind
 pub mod Plain

@@ -3,14 +3,15 @@ ghost use mathlib.Core.Path.{_≡_};
 ghost use mathlib.Core.Bool.{cond};
 ghost use Prim.Native.Nat.{_+_, _*_, _<_, _≤_};
 ghost use lib.Dec.{eqb};
-ghost use lib.ListN.{length};
+ghost use lib.ListN.{length, drop};
 ghost use lib.Seq.{sets};
 ghost use Rattle.opus_size.specs.Size.{mostBytes, lengthField, lengthFields};
 ghost use Rattle.opus_toc.specs.Toc.{upperSix};
-ghost use Rattle.opus_format.specs.Frames.{longest};
+ghost use Rattle.opus_format.specs.Frames.{longest, total, cut};
 ghost use Rattle.opus_format.specs.Format.{ownLength};
 ghost use Rattle.opus_header.specs.Header.{chain, padBytes, shortCode, fullFront};
 ghost use Rattle.opus_header.specs.Sums.{sumsOf, frontOf, headerOf};
+ghost use Rattle.opus_header.specs.Compact.{compact};
 ghost use Rattle.opus_header.specs.Forms.{compactForm, formFor, frontBytes, headerBytes, compactBytes, missing};
 use opus_defines::wide;
 
@@ -261,4 +262,27 @@ pub fn form_for(count: usize, need: usize, room: usize, pad: bool) -> Form
         return Form::Full(room - (need + 1));
     }
     Form::Full(room - need)
+}
+
+// Writes the compact packet of frames of lengths `ns`, which stand in `data` from `first` on, at the front of `dst`, and answers its bytes.
+pub fn put_compact(
+    dst: &mut [u8],
+    toc: u8,
+    ns: &[u16],
+    data: &[u8],
+    first: usize,
+    self_delimited: bool,
+) -> usize
+    requires some { ⌜ (1 ≤ length (now ns)) × (length (now ns) ≤ 48) × (longest (now ns) ≤ mostBytes) ⌝ }
+    requires block { ⌜ first + total (now ns) ≤ length (now «data») ⌝ }
+    requires room { ⌜ length (compact «self_delimited» (upperSix toc) (cut (now ns) (drop first (now «data»)))) ≤ length (now dst) ⌝ }
+    ensures bytes { λ _. ⌜ now (dst .exit)
+        ≡ sets (now (dst .entry)) 0 (compact «self_delimited» (upperSix toc) (cut (now (ns .entry)) (drop first (now («data» .entry))))) ⌝ }
+    ensures next { λ r. ⌜ r ≡ length (compact «self_delimited» (upperSix toc) (cut (now (ns .entry)) (drop first (now («data» .entry))))) ⌝ }
+{
+    let m = sums_of(ns);
+    let form = compact_form(ns.len());
+    let at = put_header(dst, toc, ns, m, form, self_delimited);
+    blocks::copy_into(dst, at, data, first, m.total);
+    at + m.total
 }

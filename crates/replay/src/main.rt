@@ -20,8 +20,10 @@ use replay_numbers::packet_case;
 use replay_numbers::range_case;
 use replay_orders::orders_case;
 use replay_reading::reading_case;
+use replay_streams::join_case;
+use replay_streams::take_case;
 
-// Which crate answers a kind. Only the collector and compaction need the store.
+// Which crate answers a kind. Only the collector, compaction and the streams need the store.
 fn case(
     input: &mut [u8],
     c: Cursor,
@@ -38,6 +40,8 @@ fn case(
         19 => packet_case(input, c, work, store, out, at),
         20 => range_case(input, c, work, store, out, at),
         21 => orders_case(input, c, work, store, out, at),
+        22 => join_case(input, c, work, store, out, at),
+        23 => take_case(input, c, work, store, out, at),
         3..=6 | 13..=16 => in_place_case(input, c, work, out, at, kind),
         24 => judge_case(input, c, work, out, at),
         25 => share_case(input, c, work, store, out, at),

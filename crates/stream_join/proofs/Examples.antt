@@ -5,6 +5,7 @@ use mathlib.Core.Path.{_≡_, refl}
 use mathlib.Core.List.{List, [], _∷_}
 use lib.IntN.{pos, negsuc}
 use lib.ListN.{replicate}
+use Rattle.opus_defines.specs.Numbers.{plain}
 use Rattle.opus_defines.specs.Rules.{ruleRefusal}
 use Rattle.opus_defines.specs.Outcome.{refusal, wrote}
 use Rattle.opus_defines.specs.declared.Refusal.the-variants.{BadArg, BufferTooSmall, InvalidPacket, Unreadable}
@@ -14,7 +15,7 @@ use Rattle.opus_toc.specs.Toc.{duration, samples}
 use Rattle.opus_format.specs.Reading.{read}
 use Rattle.opus_header.specs.Header.{header}
 use Rattle.opus_header.specs.Compact.{compact}
-use Rattle.stream_join.specs.Join.{join, take}
+use Rattle.stream_join.specs.Join.{join, packetsJoined, take, streamTaken}
 
 abbrev empties : ℕ → List ℕ
 empties n = replicate n 0
@@ -40,6 +41,18 @@ pub outside : (join [] [] 9 ≡ refusal BadArg) × (join (0x00 ∷ 0xaa ∷ 0x00
     × (join (0x00 ∷ 0xaa ∷ 0x00 ∷ 0xbb ∷ []) (2 ∷ 2 ∷ []) 4 ≡ refusal BufferTooSmall)
 unfolding join read duration samples compact header lengthField
 outside = (refl, refl, refl, refl, refl, refl)
+
+-- the calls: just the room, a byte more, which stays, and a byte less
+pub called : (packetsJoined (0x00 ∷ 0xaa ∷ 0x00 ∷ []) (2 ∷ 1 ∷ []) (7 ∷ 7 ∷ 7 ∷ 7 ∷ [])
+    ≡ record { report = plain (pos 4); bytes = 0x00 ∷ 0x01 ∷ 0xaa ∷ 0x00 ∷ [] })
+    × (packetsJoined (0x00 ∷ 0xaa ∷ []) (2 ∷ []) (7 ∷ 7 ∷ 7 ∷ []) ≡ record { report = plain (pos 2); bytes = 0x00 ∷ 0xaa ∷ 7 ∷ [] })
+    × (packetsJoined (0x00 ∷ 0xaa ∷ []) (2 ∷ []) (7 ∷ []) ≡ record { report = plain (negsuc 1); bytes = 7 ∷ [] })
+    × (streamTaken (0x00 ∷ 0x01 ∷ 0xaa ∷ 0x00 ∷ []) (pos 2) (pos 0) (7 ∷ 7 ∷ [])
+    ≡ record { report = plain (pos 2); bytes = 0x00 ∷ 0xaa ∷ [] })
+    × (streamTaken (0x00 ∷ 0x01 ∷ 0xaa ∷ 0x00 ∷ []) (pos 2) (pos 1) (7 ∷ 7 ∷ []) ≡ record { report = plain (pos 1); bytes = 0x00 ∷ 7 ∷ [] })
+    × (streamTaken (0x00 ∷ 0x01 ∷ 0xaa ∷ 0x00 ∷ []) (pos 2) (pos 0) (7 ∷ []) ≡ record { report = plain (negsuc 1); bytes = 7 ∷ [] })
+unfolding packetsJoined streamTaken join take read duration samples compact header lengthField
+called = (refl, refl, refl, refl, refl, refl)
 
 -- an empty frame lasts as long as another
 pub lasting-empty : join (0x00 ∷ 0x00 ∷ 0xaa ∷ []) (1 ∷ 2 ∷ []) 4 ≡ wrote 4 (0x00 ∷ 0x00 ∷ 0x00 ∷ 0xaa ∷ [])

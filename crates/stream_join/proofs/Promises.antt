@@ -2,7 +2,7 @@
 -- Assumes nothing.
 use Prim.Native.Nat.{ℕ, suc, _+_, _-_, _≤_, _<_}
 use native.Mathlib.Omega.{arith}
-use mathlib.Core.Path.{_≡_, sym, ap, _∙_}
+use mathlib.Core.Path.{_≡_, refl, sym, ap, _∙_}
 use mathlib.Core.List.{List, [], map}
 use mathlib.Core.Bool.{Bool, true, false}
 use mathlib.Core.Logic.{_⊎_, inl, inr, ⊎-elim}
@@ -10,7 +10,7 @@ use lib.IntN.{ℤ, pos, negsuc}
 use lib.ListN.{length, getD, take as listTake}
 use Rattle.laws.specs.Bytes.{Bytes}
 use Rattle.opus_defines.specs.Rules.{ruleRefusal}
-use Rattle.opus_defines.specs.Outcome.{refusal, written}
+use Rattle.opus_defines.specs.Outcome.{refusal, written, leaves}
 use Rattle.opus_defines.specs.declared.Refusal.{Refusal}
 use Rattle.opus_defines.specs.declared.Refusal.the-variants.{BadArg, BufferTooSmall, InvalidPacket}
 use Rattle.opus_defines.proofs.Outcomes.{refusal-keeps}
@@ -25,13 +25,14 @@ use Rattle.multistream.specs.Streams.{streamsOf}
 use Rattle.multistream.specs.Unpad.{unpadStreams}
 use Rattle.multistream.proofs.Written.{compact-within}
 use Rattle.stream_join.specs.Join.{holds, heldIn, lasting, equallyLong, byHeld, joinedStreams, join, packetsJoined, packetOf, take, streamTaken}
+use Rattle.stream_join.specs.Refusals.{Outside, Inside, Readable, Unread, lasts, OutsideTake}
 use Rattle.stream_join.proofs.Looked.{cut-count}
 use Rattle.stream_join.proofs.Joining.{held-count}
 use Rattle.stream_join.proofs.Apart.{Joined, join-was, packets-valid, streams-valid, joined-reads, held-of, nth-unpads, take-gives, parts-join}
 use Rattle.stream_join.proofs.Apart.{streams-count, unpads-as}
-use Rattle.stream_join.proofs.Refusing.{Outside, Inside, inside-or-outside, join-outside, join-by, Readable, Unread, readable-or-not, lasts}
+use Rattle.stream_join.proofs.Refusing.{inside-or-outside, join-outside, join-by, readable-or-not}
 use Rattle.stream_join.proofs.Refusing.{first-unreadable, times-differ, some-differs, times-agree-or-not, times-agree}
-use Rattle.stream_join.proofs.Refusing.{OutsideTake, take-outside, take-outside-or-not, take-unread-or-not}
+use Rattle.stream_join.proofs.Refusing.{take-outside, take-outside-or-not, take-unread-or-not}
 use Rattle.stream_join.proofs.Refusing.{streams-agree-or-not, take-unread, take-unequal, take-some-differs, take-agree}
 
 -- ---- packets of lengths ns, one behind another in s, that were joined into q
@@ -105,7 +106,16 @@ parts-joined-are-unpadded k p bytes short few xs e equal ts c t room fits narrow
     ts c t
     ∙ (ap (λ m. written (compactStreams m xs)) same ∙ sym (unpads-as k p xs e))
 
--- ---- 5. Beside a refusal nothing is written.
+-- ---- 5. All of this is about the calls: the room is the length of the destination, at whose front the bytes stand, and those past them stay. Beside a refusal
+-- nothing is written.
+pub join-is-the-call : (s ns dst : List ℕ) → packetsJoined s ns dst ≡ leaves dst (join s ns (length dst))
+unfolding packetsJoined
+join-is-the-call s ns dst = refl
+
+pub take-is-the-call : (s : List ℕ) (nb k : ℤ) (dst : List ℕ) → streamTaken s nb k dst ≡ leaves dst (take s nb k (length dst))
+unfolding streamTaken
+take-is-the-call s nb k dst = refl
+
 pub refused-join-changes-nothing : (s ns dst : List ℕ) (n : ℕ) → packetsJoined s ns dst .report .number ≡ negsuc n
     → packetsJoined s ns dst .bytes ≡ dst
 unfolding packetsJoined

@@ -1,12 +1,12 @@
 -- What is refused, and for what.
---     Outside, join-outside                     what no join takes
---     Inside, inside-or-outside, join-by        what is left, by what the packets hold
+--     join-outside                              what no join takes
+--     inside-or-outside, join-by                what is left, by what the packets hold
 --     first-unreadable                          the first packet that cannot be read, with its place in the buffer
---     lasts, readable-held, nth-time            packets that can be read, and how long they last
+--     readable-held, nth-time                   packets that can be read, and how long they last
 --     equal-all, unequal-one, streams-agree-or-not      whether they last equally long
---     Readable, Unread, readable-or-not         all can be read, or one is the first that cannot
+--     readable-or-not                           all can be read, or one is the first that cannot
 --     times-differ, some-differs, times-agree-or-not, times-agree   the join of packets that can be read, by how long they last
---     OutsideTake, take-outside, take-outside-or-not, take-unread-or-not      what no taking out takes
+--     take-outside, take-outside-or-not, take-unread-or-not      what no taking out takes
 --     take-unread, take-unequal, take-some-differs, take-agree      what is left, likewise
 -- Assumes nothing.
 use Prim.Native.Nat.{ℕ, zero, suc, _+_, _-_, _≤_, _<_}
@@ -37,24 +37,13 @@ use Rattle.stream_join.specs.Join.{Held, stuck, holds, thenPackets, held
 use Rattle.stream_join.specs.Join.{joinedStreams, join, heldAs, heldIn, packetOf}
 use Rattle.stream_join.specs.Join as Join
 use Rattle.stream_join.specs.Parts.{streamAt}
+use Rattle.stream_join.specs.Refusals.{Outside, Inside, Readable, Unread, lasts, OutsideTake}
 use Rattle.stream_join.proofs.Looked.{cut-count, time-six}
 use Rattle.stream_join.proofs.Taking.{take-long, take-wide, take-negative, take-above, unread-or-streams}
 use Rattle.stream_join.proofs.Apart.{held-of}
 use Rattle.stream_join.proofs.Joining.{held-count, join-empty, join-many, join-long, join-wide, join-uneven, join-checked}
 
 -- ---- -1
--- no packet, more than 255, a buffer or a destination above 65,535 bytes, or lengths that do not sum to the buffer
-abbrev pub Outside : List ℕ → List ℕ → ℕ → Type 0
-Outside s ns room =
-    (length ns ≡ 0) ⊎ ((255 < length ns) ⊎ ((65535 < length s) ⊎ ((65535 < room) ⊎ (total ns ≡ length s → ⊥))))
-
-pub record Inside (s ns : List ℕ) (room : ℕ) : Type 0 where
-  pub some : length ns ≡ 0 → ⊥
-  pub few : length ns ≤ 255
-  pub short : length s ≤ 65535
-  pub narrow : room ≤ 65535
-  pub sum : total ns ≡ length s
-
 module _ (s ns : List ℕ) (room : ℕ) where
   pub inside-or-outside : Inside s ns room ⊎ Outside s ns room
   inside-or-outside =
@@ -118,10 +107,6 @@ first-unreadable (suc k) (n ∷ ns) s t h f rule place r =
     (length-take-le n s (omega (arith, t))) rest)
 
 -- ---- how long packets last: by TOC byte and frame count (M-104)
-abbrev pub lasts : Reading → ℕ
-lasts (refused rule place) = 0
-lasts (accepted toc ns first taken) = time toc (length ns)
-
 lasts-as : (p : List ℕ) (toc : ℕ) (ns : List ℕ) (first : ℕ) → lasting (streamAt p toc ns first) ≡ time toc (length ns)
 lasts-as p toc ns first = rw (cut-count ns (drop first p)) (sym (time-six toc (length ns)))
 
@@ -197,17 +182,6 @@ streams-agree-or-not xs =
     by-test (equallyLong xs) (λ t. inl (λ i h. equal-all xs t i 0 h (omega (arith, h)))) (λ t. inr (unequal-one xs t))
 
 -- ---- which packet is the first that cannot be read
-abbrev pub Readable : List (List ℕ) → Type 0
-Readable ps = (i : ℕ) → i < length ps → isAccepted (read false (getD ps i [])) ≡ true
-
-pub record Unread (ps : List (List ℕ)) : Type 0 where
-  pub at : ℕ
-  pub inside : at < length ps
-  pub before : (i : ℕ) → i < at → isAccepted (read false (getD ps i [])) ≡ true
-  pub rule : Rule
-  pub place : ℕ
-  pub is : read false (getD ps at []) ≡ refused rule place
-
 pub readable-or-not : (ps : List (List ℕ)) → Readable ps ⊎ Unread ps
 readable-or-not [] = inl (λ i h. absurd (omega (arith, h)))
 readable-or-not (p ∷ ps) = go (read false p) refl (readable-or-not ps)
@@ -295,10 +269,6 @@ module _ (s ns : List ℕ) (room : ℕ) (i : Inside s ns room) (r : Readable (cu
       (held-all, held-is, λ h. by ∙ rw (lt-ltb room (length q) h), λ h. by ∙ rw (le-ltb room (length q) h))
 
 -- ---- taking out
--- a packet or a destination above 65,535 bytes, or k is no stream of the packet
-abbrev pub OutsideTake : List ℕ → ℤ → ℤ → ℕ → Type 0
-OutsideTake s nb k room = (65535 < length s) ⊎ ((65535 < room) ⊎ ((m : ℕ) → m < streamsOf nb → k ≡ pos m → ⊥))
-
 module _ (s : List ℕ) (nb : ℤ) (room : ℕ) where
   pub take-outside : (k : ℤ) → OutsideTake s nb k room → Join.take s nb k room ≡ refusal BadArg
   take-outside k o =

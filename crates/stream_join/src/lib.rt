@@ -2,18 +2,13 @@
 ghost use mathlib.Core.Path.{_≡_};
 ghost use mathlib.Core.Bool.{true, false, _&&_};
 ghost use Prim.Native.Nat.{_+_, _*_, _<_, _≤_};
-ghost use lib.Dec.{ltb, eqb};
-ghost use lib.ListN.{length, drop};
+ghost use lib.Dec.{eqb};
+ghost use lib.ListN.{length};
 ghost use lib.Seq.{sets};
-ghost use Rattle.opus_size.specs.Size.{mostBytes};
-ghost use Rattle.opus_toc.specs.Toc.{upperSix};
 ghost use Rattle.opus_defines.specs.Numbers.{reportOf};
 ghost use Rattle.opus_defines.specs.Outcome.{intoRoom, leaves};
-ghost use Rattle.opus_defines.specs.Rules.{shifted};
-ghost use Rattle.opus_format.specs.Frames.{cut, total, longest};
+ghost use Rattle.opus_format.specs.Frames.{cut, total};
 ghost use Rattle.opus_format.specs.Reading.{read};
-ghost use Rattle.opus_header.specs.Compact.{compact};
-ghost use Rattle.multistream.specs.Streams.{streamsOf};
 ghost use Rattle.multistream.specs.Parts.{isAccepted, compactBy};
 ghost use Rattle.stream_join.specs.Join.{heldBy, packetOf, packetsJoined, streamTaken};
 ghost use Rattle.stream_join.specs.Parts.{lookBy, placeOf, bytesOf, andOne, ended, surveyed, packedFrom, isHeld, heldStreams, heldStreamsIn};
@@ -51,29 +46,6 @@ fn look_at(data: &[u8], self_delimited: bool, compact_delimited: bool) -> Look
     Look::Unread(e)
 }
 
-// Writes the compact packet of frames of lengths `ns`, which stand in `data` from `first` on, at the front of `dst`.
-fn put_frames(
-    data: &[u8],
-    dst: &mut [u8],
-    toc: u8,
-    ns: &[u16],
-    first: usize,
-    self_delimited: bool,
-) -> usize
-    requires some { ⌜ (1 ≤ length (now ns)) × (length (now ns) ≤ 48) × (longest (now ns) ≤ mostBytes) ⌝ }
-    requires block { ⌜ first + total (now ns) ≤ length (now «data») ⌝ }
-    requires room { ⌜ length (compact «self_delimited» (upperSix toc) (cut (now ns) (drop first (now «data»)))) ≤ length (now dst) ⌝ }
-    ensures bytes { λ _. ⌜ now (dst .exit)
-        ≡ sets (now (dst .entry)) 0 (compact «self_delimited» (upperSix toc) (cut (now (ns .entry)) (drop first (now («data» .entry))))) ⌝ }
-    ensures next { λ r. ⌜ r ≡ length (compact «self_delimited» (upperSix toc) (cut (now (ns .entry)) (drop first (now («data» .entry))))) ⌝ }
-{
-    let m = opus_header::sums_of(ns);
-    let form = opus_header::compact_form(ns.len());
-    let at = opus_header::put_header(dst, toc, ns, m, form, self_delimited);
-    blocks::copy_into(dst, at, data, first, m.total);
-    at + m.total
-}
-
 // Writes the compact packet of the packet at the front of `data`, which was read before, at the front of `dst`.
 fn put_stream(data: &[u8], self_delimited: bool, dst: &mut [u8], compact_delimited: bool) -> usize
     requires reads { ⌜ (length (now «data») ≤ 65535) × (isAccepted (read «self_delimited» (now «data»)) ≡ true) ⌝ }
@@ -86,7 +58,7 @@ fn put_stream(data: &[u8], self_delimited: bool, dst: &mut [u8], compact_delimit
     let p = opus::read_into(data, self_delimited, &mut ns);
     let n = p.count;
     let first = p.first;
-    put_frames(data, dst, p.toc, &ns[..n], first, compact_delimited)
+    opus_header::put_compact(dst, p.toc, &ns[..n], data, first, compact_delimited)
 }
 
 // ---- all of them

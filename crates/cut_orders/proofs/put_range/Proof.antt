@@ -32,8 +32,8 @@ slice-aggregate-measure c =
     let s = c .before .before .before .before in
     sym (length-take-le (s .args .b) (s .args .len .now) (omega (arith, part s .inside, s .pre .1 .0 .0)))
 
-part-put-frames-end : tie.Need-part-put-frames-end
-part-put-frames-end c = part (entry (c .before)) .inside
+part-put-compact-end : tie.Need-part-put-compact-end
+part-put-compact-end c = part (entry (c .before)) .inside
 
 -- where it begins
 from : (c : tie.After-wide) → let a = entry (c .before .before .before) .args in c .wide .result ≡ total (take (a .b) (a .len .now))
@@ -41,8 +41,8 @@ from c =
     let m = c .before .before .before in
     part-from (part (entry m)) (m .measure .result) (m .measure .ensures) (c .wide .ensures .0)
 
-put-frames-requires : tie.Need-put-frames-requires
-put-frames-requires c κs =
+put-compact-requires : tie.Need-put-compact-requires
+put-compact-requires c κs =
     let s = entry (c .before .before .before) in
     let a = s .args in
     let p = part s in (
@@ -56,7 +56,7 @@ returns c =
     let w = f .before in
     let s = entry (w .before .before .before) in
     let a = s .args in
-    range-put (part s) (a .store .now) (from w) (upperSix (a .h .toc)) (a .«data» .now) (f .put-frames .ensures .0) (f .put-frames .ensures .1)
+    range-put (part s) (a .store .now) (from w) (upperSix (a .h .toc)) (a .«data» .now) (f .put-compact .ensures .1) (f .put-compact .ensures .0)
 
 pub put-range-spec : {M : Type 1} → statement M
 put-range-spec =
@@ -67,8 +67,8 @@ put-range-spec =
     (λ c. search needs)
     (λ c. search needs)
     (λ c. search needs)
-    part-put-frames-end
+    part-put-compact-end
     (λ c κs. search needs)
-    put-frames-requires
+    put-compact-requires
     (λ c. search needs)
     returns)

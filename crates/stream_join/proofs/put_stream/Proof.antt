@@ -30,11 +30,11 @@ reading r =
 array-share-prefix-ns : tie.Need-array-share-prefix-ns
 array-share-prefix-ns c = reading (c .before) .inside
 
-slice-aggregate-put-frames : tie.Need-slice-aggregate-put-frames
-slice-aggregate-put-frames c = sym (length-take-le _ _ (reading (c .before .before) .inside))
+slice-aggregate-put-compact : tie.Need-slice-aggregate-put-compact
+slice-aggregate-put-compact c = sym (length-take-le _ _ (reading (c .before .before) .inside))
 
-put-frames-requires : tie.Need-put-frames-requires
-put-frames-requires c κs =
+put-compact-requires : tie.Need-put-compact-requires
+put-compact-requires c κs =
     let r = c .before .before in
     let s = entry r in
     let a = s .args in
@@ -50,7 +50,7 @@ returns c =
     let a = s .args in
     let is = put-is (a .self-delimited) (a .«data» .now) (r .read-into .result) (r .read-into .last .1 .1 .0) (r .read-into .ensures) (s .pre .0 .0)
     (s .pre .0 .1) (bytes r) (a .compact-delimited) in
-    (rw is at (k .put-frames .ensures .0), rw is at (k .put-frames .ensures .1))
+    (rw is at (k .put-compact .ensures .0), rw is at (k .put-compact .ensures .1))
 
 pub put-stream-spec : {M : Type 1} → statement M
 put-stream-spec =
@@ -58,7 +58,7 @@ put-stream-spec =
     (tie.spec
     (λ c κs. search needs)
     array-share-prefix-ns
-    slice-aggregate-put-frames
-    put-frames-requires
+    slice-aggregate-put-compact
+    put-compact-requires
     (λ c. search needs)
     returns)

@@ -1,4 +1,4 @@
--- `stream_join::put_frames` meets its contract: the compact header is put, and the frames' block behind it.
+-- `opus_header::put_compact` meets its contract: the compact header is put, and the frames' block behind it.
 -- Assumes nothing.
 use Prim.Native.Nat.{_+_}
 use native.Mathlib.Omega.{arith}
@@ -7,12 +7,12 @@ use lib.ListN.{length, drop}
 use borrow.Author.Needs.{needs}
 use Rattle.opus_toc.specs.Toc.{upperSix}
 use Rattle.opus_format.specs.Frames.{cut}
 use Rattle.opus_header.specs.Compact.{compact}
 use Rattle.opus_header.specs.Sums.{headerOf}
 use Rattle.opus_header.proofs.Forms.{sums-total}
-use Rattle.stream_join.proofs.Looked.{both-long, put-small, put-compact}
-use Rattle.stream_join.proofs.put_frames.Statement.{statement}
-use Rattle.stream_join.proofs.put_frames.Tie as tie
+use Rattle.opus_header.proofs.Behind.{both-long, put-small, put-compact}
+use Rattle.opus_header.proofs.put_compact.Statement.{statement}
+use Rattle.opus_header.proofs.put_compact.Tie as tie
 
 abbrev entry : tie.After-compact-form → tie.Start
 entry k = k .before .before .before .before .before
@@ -75,8 +75,8 @@ returns c =
     put-compact (a .self-delimited) (upperSix (a .toc)) (a .ns .now) (a .«data» .now) (a .first) (s .pre .1 .0) (m .result) (m .ensures)
     (k .compact-form .result) (k .compact-form .ensures) (a .dst .now) (h .put-header .ensures .0) (h .put-header .ensures .1) (i .copy-into .ensures)
 
-pub put-frames-spec : {M : Type 1} → statement M
-put-frames-spec =
+pub put-compact-spec : {M : Type 1} → statement M
+put-compact-spec =
     tie.close
     (tie.spec
     (λ c κs. search needs)

@@ -1,0 +1,39 @@
+-- `replay_streams::lengths_at` is safe and ends.
+-- Assumes nothing.
+use mathlib.Core.Path.{_≡_}
+use Prim.Native.Nat.{_-_, _≤_}
+use borrow.Author.Needs.{needs}
+use lib.ListN.{length}
+use Rattle.replay_streams.proofs.lengths_at.Statement.{statement}
+use Rattle.replay_streams.proofs.lengths_at.Tie as tie
+
+abbrev Inv-loop : tie.InvT-loop
+Inv-loop input₀ lengths₀ n next₀ i₀ input lengths next i = (i ≤ n) × (length input ≡ length input₀) × (length lengths ≡ length lengths₀)
+
+abbrev μ-loop : tie.MeasureT-loop
+μ-loop input₀ lengths₀ n next₀ i₀ input lengths next i = n - i
+
+pub lengths-at-spec : {M : Type 1} → statement M
+lengths-at-spec =
+    tie.close
+    (tie.spec
+    Inv-loop
+    μ-loop
+    (λ c. search needs)
+    (λ c. search needs)
+    (λ c. search needs)
+    (λ c. search needs)
+    (λ c κs. search needs)
+    (λ c. search needs)
+    (λ c. search needs)
+    (λ c. search needs)
+    (λ c. search needs)
+    (λ c. search needs)
+    (λ c. search needs)
+    (λ c. search needs)
+    (λ c. search needs)
+    (λ c. search needs)
+    (λ c. search needs)
+    (λ c. search needs)
+    (λ c. search needs)
+    (λ c. search needs))
