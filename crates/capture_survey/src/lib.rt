@@ -1,15 +1,13 @@
 // What is counted of a capture (beyond document 02): its records, the bytes of their packets and those passed over, the verdicts on the packets (M-110), and
 // the bytes that compaction would reclaim (M-103).
 ghost use mathlib.Core.Path.{_≡_};
-ghost use mathlib.Core.Bool.{false, cond};
+ghost use mathlib.Core.Bool.{cond};
 ghost use Prim.Native.Nat.{_+_, _*_, _<_, _≤_, _^_};
 ghost use lib.ListN.{length, take};
 ghost use Rattle.capture_window.specs.Window.{settled};
-ghost use Rattle.packet_judge.specs.Judging.{judged};
-ghost use Rattle.capture_survey.specs.Survey.{saved as Survey·saved, ofRecord, ofPassed, together, bytesIn, surveyOf};
+ghost use Rattle.capture_survey.specs.Survey.{ofRecord, ofPassed, together, bytesIn, surveyOf};
 use capture::HEAD_BYTES;
 use capture_window::WINDOW;
-use packet_judge::Judged;
 use packet_judge::Tally;
 
 pub struct Survey {
@@ -38,32 +36,19 @@ pub fn nothing() -> Survey
     }
 }
 
-// The bytes by which the shorter spelling of a packet is shorter, by the verdict on it: only a dirty packet is read once more.
-fn saved(j: Judged, packet: &[u8]) -> usize
-    requires { ⌜ (j ≡ judged false (now packet)) × (length (now packet) ≤ 65535) ⌝ }
-    ensures { λ r. ⌜ r ≡ Survey·saved (now (packet .entry)) ⌝ }
-{
-    match j {
-        Judged::Refused(_) => 0,
-        Judged::Unreadable(_, _) => 0,
-        Judged::Dirty => packet.len() - spelling::shorter_length(packet),
-        Judged::Longer(least) => packet.len() - least,
-        Judged::Clean => 0,
-    }
-}
-
-// A record counted, with the bytes passed over before it.
+// A record counted, with the bytes passed over before it. One reading says the verdict and the least length, which is that of the shorter spelling.
 fn with_record(sum: Survey, passed: usize, packet: &[u8]) -> Survey
     requires { ⌜ (bytesIn sum + 3 * (passed + 5 + length (now packet)) < 2 ^ 64) × (length (now packet) ≤ 65535) ⌝ }
     ensures { λ r. ⌜ r ≡ together sum (ofRecord passed (now (packet .entry))) ⌝ }
 {
-    let j = packet_judge::judge_packet(packet, false);
+    let w = packet_judge::weigh_packet(packet, false);
+    let j = w.verdict;
     Survey {
         records: sum.records + 1,
         packets: sum.packets + packet.len(),
         passed: sum.passed + passed,
         verdicts: packet_judge::tallied(j, sum.verdicts),
-        reclaimable: sum.reclaimable + saved(j, packet),
+        reclaimable: sum.reclaimable + (packet.len() - w.least),
     }
 }
 

@@ -1,25 +1,24 @@
 -- Records side by side that stay as they are: they are done one after another, and what is written for them is what stands there.
 --     runs-within, runs-move     where they end
---     Found, none-found, told, next-found     from turn to turn
+--     Found, none-found, told, next-within, piece, next-found     from turn to turn
 --     run-taken, run-done     they are done
 -- Assumes nothing.
-use Prim.Native.Nat.{ℕ, suc, _+_, _-_, _<_, _≤_}
+use Prim.Native.Nat.{ℕ, suc, _+_, _-_, _≤_}
 use native.Mathlib.Omega.{arith}
 use mathlib.Core.Path.{_≡_, refl, sym, ap, _∙_}
 use mathlib.Core.List.{List}
-use lib.ListN.{length, getD, drop}
+use lib.ListN.{length, take, drop}
 use lib.Seq.{sets}
 use Rattle.laws.specs.Bytes.{Bytes}
 use Rattle.blocks.specs.Blocks.{part}
 use Rattle.blocks.proofs.Sets.{sets-append, part-append, length-part}
-use Rattle.opus_toc.specs.Toc.{code}
+use Rattle.opus_defines.specs.Bounds.{mostPacket}
 use Rattle.capture.specs.Records.{Entry, written}
 use Rattle.capture.specs.Finding.{packetLength, packetAt, nextRecord}
 use Rattle.capture.specs.Reading.{behind, entryOf}
-use Rattle.capture.proofs.Laws.{before-here, within}
-use Rattle.capture.proofs.Packets.{packet-bytes, packet-first}
+use Rattle.capture.proofs.Laws.{before-here, packet-part, within}
 use Rattle.capture.proofs.Answers.{found as found-next, next-place, next-passed, next-stands}
-use Rattle.spelling.proofs.Laws.{plain-stays}
+use Rattle.spelling.specs.Spelling.{shorter}
 use Rattle.compaction.specs.Account.{rewritten, size}
 use Rattle.compaction.specs.Parts.{entryAt, Runs, none, more}
 use Rattle.compaction.proofs.Entries.{stands-length, stands-written, answer-entry}
@@ -59,13 +58,17 @@ module _ {s : List ℕ} {at left end records n : ℕ} (g : Found s at left end r
   pub next-within : end + 5 + n ≤ length s
   next-within = within s end n (g .next) some
 
-  pub next-found : 5 + n ≤ left - (end - at) → code (getD s (end + 5) 0) < 2 → (m : ℕ) → m ≡ packetLength (drop (end + (5 + n)) s)
+  -- the bytes lent on as the packet
+  abbrev pub piece : List ℕ
+  piece = take (end + 5 + n - (end + 5)) (drop (end + 5) s)
+
+  pub next-found : 5 + n ≤ left - (end - at) → shorter piece mostPacket ≡ piece → (m : ℕ) → m ≡ packetLength (drop (end + (5 + n)) s)
       → Found s at left (end + (5 + n)) (records + 1) m
   next-found fit c m e =
       let place : end + 5 + packetLength (drop end s) ≡ end + (5 + n) = omega (arith, g .next) in
       let one : suc records ≡ records + 1 = omega arith in
       record {
-        runs = rw (place, one) at (more (g .runs) stands c);
+        runs = rw (place, one) at (more (g .runs) stands (rw (packet-part s end n (g .next)) c));
         from = omega (arith, g .from);
         inside = omega (arith, next-within);
         few = omega (arith, g .from, g .few);
@@ -73,11 +76,11 @@ module _ {s : List ℕ} {at left end records n : ℕ} (g : Found s at left end r
         next = e;
       }
 
--- ---- a record of code 0 or 1 at a place
+-- ---- a record at a place whose packet stays as it is
 module _ (s : List ℕ) (bytes : Bytes s) (at : ℕ) (inside : at ≤ length s)
-    (f : packetLength (drop at s) ≡ 0 → ⊥) (c : code (getD s (at + 5) 0) < 2) where
+    (f : packetLength (drop at s) ≡ 0 → ⊥) (c : shorter (packetAt s at) mostPacket ≡ packetAt s at) where
   stays : rewritten (entryAt s at) ≡ entryAt s at
-  stays = rw (plain-stays (packetAt s at) 65535 (packet-bytes s at bytes) (rw (packet-first s at f) c))
+  stays = rw c
 
   here : nextRecord s at .place ≡ at
   here = omega (arith, next-place s at inside, before-here (drop at s) f)

@@ -80,7 +80,7 @@ fn put_record(
     HEAD_BYTES + k
 }
 
-// Records of codes 0 and 1 from a place on, one right behind another, in at most `left` bytes: their packets are compact, or cannot be read.
+// Records from a place on, one right behind another, in at most `left` bytes, whose packets are seen to stay as they are.
 fn run_from(data: &[u8], at: usize, left: usize) -> Run
     requires { ⌜ at ≤ length (now «data») ⌝ }
     ensures run { λ r. ⌜ Runs (now («data» .entry)) at (r .end) (r .records) ⌝ }
@@ -93,7 +93,8 @@ fn run_from(data: &[u8], at: usize, left: usize) -> Run
         if left - (end - at) < HEAD_BYTES + n {
             return Run { end, records };
         }
-        if 2 <= data[end + HEAD_BYTES] % 4 {
+        let first = end + HEAD_BYTES;
+        if !spelling::stays(&data[first..first + n]) {
             return Run { end, records };
         }
         end += HEAD_BYTES + n;

@@ -1,6 +1,7 @@
 -- Ordinary packets of code 0, 1 or 2, judged by what was read of them without an array.
 --     one-clean                     one frame
 --     unequal-clean, equal-said     two frames; those of one length by the bytes that they need
+-- Each with the least length.
 -- Assumes nothing.
 use Prim.Native.Nat.{ℕ, _+_, _*_, _≤_}
 use native.Mathlib.Omega.{arith}
@@ -26,10 +27,10 @@ use Rattle.opus_header.specs.Header.{same, sizes}
 use Rattle.opus_header.specs.Sums.{sumsOf}
 use Rattle.opus_header.specs.Forms.{compactBytes}
 use Rattle.opus_header.proofs.Standing.{compact-needs}
-use Rattle.packet_judge.specs.Judging.{leastBytes, said, judgeRead, judged}
+use Rattle.packet_judge.specs.Judging.{leastBytes, said, judgeRead, judged, leastRead, leastLength}
 use Rattle.packet_judge.specs.declared.Judged.{Judged}
 use Rattle.packet_judge.specs.declared.Judged.the-variants.{Clean}
-use Rattle.packet_judge.proofs.Verdicts.{says-clean, judged-short}
+use Rattle.packet_judge.proofs.Verdicts.{says-clean, judged-short, least-short}
 
 -- the code is not 3
 uncounted : (p : List ℕ) (r : Short) → r ≡ shortAt p → (r ≡ Counted → ⊥) → code (getD p 0 0) ≡ 3 → ⊥
@@ -85,20 +86,28 @@ module _ (p : List ℕ) (bytes : Bytes p) (c : code (getD p 0 0) ≡ 3 → ⊥) 
         unpadded (q .layout) own-code,
       )
 
+  abbrev least : ℕ
+  least = compactBytes (length ns) (sumsOf ns) false
+
+  least-is : leastBytes false p (getD p 0 0) ns first ≡ least
+  unfolding leastBytes
+  least-is = compact-needs false (upperSix (getD p 0 0)) ns p first (omega (arith, all-frames)) (sumsOf ns) refl least refl
+
+  least-length : leastLength false p ≡ least
+  unfolding leastRead
+  least-length = rw (least-short false p (k .short), k .means) least-is
+
   -- so it is judged by the least length alone
-  by-least : judged false p ≡ said false (compactBytes (length ns) (sumsOf ns) false) (length p)
-  unfolding judgeRead leastBytes
+  by-least : judged false p ≡ said false least (length p)
+  unfolding judgeRead
   by-least =
-      let least = compactBytes (length ns) (sumsOf ns) false in
       let ends : length (take (length p) p) ≤ first + total ns = omega (arith, all-frames, length-take-le (length p) p (omega arith)) in
       let none : drop (first + total ns) (take (length p) p) ≡ [] = drop-of-length-le (take (length p) p) ends in
-      rw (
-        judged-short false p (k .short),
-        k .means,
-        k .whole,
-        none,
-        compact-needs false (upperSix (getD p 0 0)) ns p first (omega (arith, all-frames)) (sumsOf ns) refl least refl,
-      )
+      rw (judged-short false p (k .short), k .means, k .whole, none, least-is)
+
+  -- clean, where that is all of it
+  all-needed : least ≡ length p → (Clean ≡ judged false p) × (length p ≡ leastLength false p)
+  all-needed e = (sym (by-least ∙ says-clean false least (length p) refl (omega (arith, e))), sym (least-length ∙ e))
 
   -- where its frames begin
   single-head : length ns ≡ 1 → first ≡ 1
@@ -109,7 +118,7 @@ module _ (p : List ℕ) (bytes : Bytes p) (c : code (getD p 0 0) ≡ 3 → ⊥) 
 
 -- ---- by what `short_at` answered
 module _ (p : List ℕ) (bytes : Bytes p) (r : Short) (e : r ≡ shortAt p) where
-  pub one-clean : (n first : ℕ) → r ≡ One n first → Clean ≡ judged false p
+  pub one-clean : (n first : ℕ) → r ≡ One n first → (Clean ≡ judged false p) × (length p ≡ leastLength false p)
   unfolding sumsOf
   one-clean n first a =
       let ns = n ∷ [] in
@@ -117,7 +126,7 @@ module _ (p : List ℕ) (bytes : Bytes p) (r : Short) (e : r ≡ shortAt p) wher
       let c = uncounted p r e (λ o. never (cc)) in
       let all = all-frames p bytes c ns first k in
       let front = single-head p bytes c ns first k refl in
-      sym (by-least p bytes c ns first k ∙ says-clean false (compactBytes 1 (sumsOf ns) false) (length p) refl (omega (arith, all, front)))
+      all-needed p bytes c ns first k (omega (arith, all, front))
 
   module _ (m n first : ℕ) (a : r ≡ Two m n first) where
     abbrev both : List ℕ
@@ -129,19 +138,17 @@ module _ (p : List ℕ) (bytes : Bytes p) (r : Short) (e : r ≡ shortAt p) wher
     coded : code (getD p 0 0) ≡ 3 → ⊥
     coded = uncounted p r e (λ o. never (cc))
 
-    pub unequal-clean : (m ≡ n → ⊥) → Clean ≡ judged false p
+    pub unequal-clean : (m ≡ n → ⊥) → (Clean ≡ judged false p) × (length p ≡ leastLength false p)
     unfolding sumsOf
     unequal-clean u =
         let differ : same both ≡ false = rw (ne-eqb n m (λ i. u (sym i))) in
         let all = all-frames p bytes coded both first two in
         let front = differing-head p bytes coded both first two differ in
-        sym
-        (by-least p bytes coded both first two
-        ∙ says-clean false (compactBytes 2 (sumsOf both) false) (length p) refl (omega (arith, all, front)))
+        all-needed p bytes coded both first two (omega (arith, all, front))
 
-    pub equal-said : m ≡ n → {j : Judged} → j ≡ said false (1 + 2 * n) (length p) → j ≡ judged false p
+    pub equal-said : m ≡ n → {j : Judged} → j ≡ said false (1 + 2 * n) (length p) → (j ≡ judged false p) × (1 + 2 * n ≡ leastLength false p)
     unfolding sumsOf
     equal-said i s =
         let alike : eqb n m ≡ true = eq-eqb n m (sym i) in
-        let least : compactBytes 2 (sumsOf both) false ≡ 1 + 2 * n = rw alike (omega arith) in
-        s ∙ sym (rw least at (by-least p bytes coded both first two))
+        let is : compactBytes 2 (sumsOf both) false ≡ 1 + 2 * n = rw alike (omega arith) in
+        (s ∙ sym (rw is at (by-least p bytes coded both first two)), sym (least-length p bytes coded both first two ∙ is))

@@ -1,9 +1,9 @@
 -- What the code tells of a packet is what it is judged to be.
 --     other-unread                   a refusal without rule and place
---     refused-told                   a packet that the reader refuses
+--     refused-told, refused-least    a packet that the reader refuses
 --     Readable, readable             a packet that it accepts: where its frames lie, and what the verdict goes by
 --     frames-end                     the frames end where the padding begins
---     bytes-told                     the verdict by the padding bytes and the least length
+--     least-told, bytes-told         the least length, and the verdict by it and the padding bytes
 -- Assumes nothing.
 use Prim.Native.Nat.{ℕ, _+_, _-_, _≤_}
 use native.Mathlib.Omega.{arith}
@@ -24,7 +24,7 @@ use Rattle.opus_defines.specs.declared.Refusal.the-variants.{Unreadable as Brea
 use Rattle.opus_defines.specs.declared.Verdict.the-variants.{Accepted, Refused as Refuses}
 use Rattle.opus_size.specs.Size.{mostBytes}
 use Rattle.opus_toc.specs.Toc.{upperSix}
-use Rattle.opus_format.specs.Frames.{cut, total, longest}
+use Rattle.opus_format.specs.Frames.{total, longest}
 use Rattle.opus_format.specs.Reading.{accepted}
 use Rattle.opus_format.specs.Dirt.{paddingOf, dirty}
 use Rattle.opus_format.proofs.Facts.{facts}
@@ -34,15 +34,15 @@ use Rattle.opus.specs.declared.PacketHead.{PacketHead}
 use Rattle.opus.proofs.AtPacket.{parse-long}
 use Rattle.opus.proofs.Parsed.{lengthsOf, parsed-accepted, parsed-refused}
 use Rattle.opus.proofs.Lent.{packetWith, lent-accepted, lent-refused}
-use Rattle.opus_header.specs.Compact.{compact}
 use Rattle.opus_header.specs.Sums.{sumsOf}
 use Rattle.opus_header.specs.Forms.{compactBytes}
 use Rattle.opus_header.specs.declared.Sums.{Sums}
 use Rattle.opus_header.proofs.Standing.{compact-needs}
 use Rattle.opus_header.proofs.Forms.{sums-total}
-use Rattle.packet_judge.specs.Judging.{leastBytes, said, judgeRead, judged, unread}
+use Rattle.packet_judge.specs.Judging.{leastBytes, said, judgeRead, judged, leastRead, leastLength, unread}
 use Rattle.packet_judge.specs.declared.Judged.{Judged}
 use Rattle.packet_judge.specs.declared.Judged.the-variants.{Refused, Unreadable}
+use Rattle.packet_judge.proofs.Verdicts.{least-long, least-short, least-unread}
 
 -- ---- refused
 pub other-unread : (e : Refusal) → ((rule : Rule) (place : ℕ) → e ≡ Breaks rule place → ⊥) → Refused e ≡ unread e
@@ -71,6 +71,11 @@ module _ (sd : Bool) (p : List ℕ) (h : PacketHead) (l : List ℕ) (e : answerO
       (λ t. let r = parsed-refused sd p (answerOf h l) e c v (ltb-false 65535 (length p) t) in
       rw (t, r .3) (ap unread (r .2) ∙ rule-unread (r .0) (r .1)))
 
+  pub refused-least : (c : Refusal) → h .verdict ≡ Refuses c → length p ≡ leastLength sd p
+  refused-least c v =
+      by-test (ltb 65535 (length p)) (λ t. sym (least-long sd p (ltb-true 65535 (length p) t)))
+      (λ t. let r = parsed-refused sd p (answerOf h l) e c v (ltb-false 65535 (length p) t) in sym (least-unread sd p (r .0) (r .1) (r .3)))
+
   -- ---- accepted, with the reader's answer
   abbrev answer : Packet
   answer = packetWith h l
@@ -80,6 +85,7 @@ module _ (sd : Bool) (p : List ℕ) (h : PacketHead) (l : List ℕ) (e : answerO
     pub some : (1 ≤ length (lengthsOf answer)) × (length (lengthsOf answer) ≤ 48) × (longest (lengthsOf answer) ≤ mostBytes)
     pub block : (answer .first + total (lengthsOf answer) ≤ answer .taken) × (answer .taken ≤ length p)
     pub goes-by : {j : Judged} → j ≡ judgeRead sd p (accepted (answer .toc) (lengthsOf answer) (answer .first) (answer .taken)) → j ≡ judged sd p
+    pub least-by : {n : ℕ} → n ≡ leastRead sd p (accepted (answer .toc) (lengthsOf answer) (answer .first) (answer .taken)) → n ≡ leastLength sd p
 
   pub readable : Bytes p → h .verdict ≡ Accepted → Readable
   unfolding judged
@@ -92,6 +98,7 @@ module _ (sd : Bool) (p : List ℕ) (h : PacketHead) (l : List ℕ) (e : answerO
         some = (f .some, f .few, f .small);
         block = (f .block, f .within);
         goes-by = λ e. rw (le-ltb 65535 (length p) (d .short), d .means) e;
+        least-by = λ e. rw (least-short sd p (d .short), d .means) e;
       }
 
 -- ---- the verdict on frames of lengths ns from `first` on, counted as m
@@ -103,11 +110,16 @@ module _ (sd : Bool) (p ns : List ℕ) (first taken : ℕ) (within : (first + to
   padding-is : (toc : ℕ) → paddingOf p (accepted toc ns first taken) ≡ take (taken - (first + m .total)) (drop (first + m .total) p)
   padding-is toc = rw frames-end (drop-take (first + total ns) taken p)
 
-  pub bytes-told : (d : Bool) → d ≡ dirty (take (taken - (first + m .total)) (drop (first + m .total) p)) → (least : ℕ)
-      → least ≡ compactBytes (length ns) m sd → {j : Judged} → j ≡ said d least taken
-      → (toc : ℕ) → j ≡ judgeRead sd p (accepted toc ns first taken)
-  unfolding judgeRead leastBytes
-  bytes-told d b least n k toc =
-      let is : length (compact sd (upperSix toc) (cut ns (drop first p))) ≡ least =
-      compact-needs sd (upperSix toc) ns p first (omega arith) m e least n in
-      rw (padding-is toc, ← b, is) k
+  module _ (least : ℕ) (n : least ≡ compactBytes (length ns) m sd) where
+    least-is : (toc : ℕ) → leastBytes sd p toc ns first ≡ least
+    unfolding leastBytes
+    least-is toc = compact-needs sd (upperSix toc) ns p first (omega arith) m e least n
+
+    pub least-told : (toc : ℕ) → least ≡ leastRead sd p (accepted toc ns first taken)
+    unfolding leastRead
+    least-told toc = sym (least-is toc)
+
+    pub bytes-told : (d : Bool) → d ≡ dirty (take (taken - (first + m .total)) (drop (first + m .total) p)) → {j : Judged} → j ≡ said d least taken
+        → (toc : ℕ) → j ≡ judgeRead sd p (accepted toc ns first taken)
+    unfolding judgeRead
+    bytes-told d b k toc = rw (padding-is toc, ← b, least-is toc) k

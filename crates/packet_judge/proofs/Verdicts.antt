@@ -1,5 +1,6 @@
 -- Which packet is judged to be what.
 --     judged-long, judged-short            by the bytes lent
+--     least-long, least-short, least-unread, least-accepted     the least length likewise
 --     long-only, unreadable-only           what a verdict says of the bytes, and of the reading
 --     dirty-only, dirty-said               what dirt is
 --     said-longer, said-clean, says-longer, says-clean     by the least length and the bytes taken
@@ -11,14 +12,14 @@ use mathlib.Core.Path.{_≡_, refl, sym, _∙_}
 use mathlib.Core.List.{List, _++_}
 use mathlib.Core.Bool.{Bool, true, false}
 use lib.Dec.{ltb}
-use lib.ListN.{length, getD, length-append}
+use lib.ListN.{length, getD, drop, length-append}
 use borrow.Author.Tests.{ltb-true, ltb-false, lt-ltb, le-ltb}
 use Rattle.laws.proofs.Never.{never, by-test}
 use Rattle.opus_defines.specs.declared.Rule.{Rule}
 use Rattle.opus_defines.specs.declared.Refusal.{Refusal}
 use Rattle.opus_defines.specs.declared.Refusal.the-variants.{BadArg}
 use Rattle.opus_toc.specs.Toc.{upperSix}
-use Rattle.opus_format.specs.Frames.{lengths, joined, total}
+use Rattle.opus_format.specs.Frames.{lengths, joined, cut, total}
 use Rattle.opus_format.specs.Format.{Spells, Behind}
 use Rattle.opus_format.specs.Reading.{Reading, refused, accepted, read}
 use Rattle.opus_format.specs.Dirt.{paddingOf, dirty, dirtyPacket}
@@ -31,7 +32,7 @@ use Rattle.opus_header.specs.Forms.{compactBytes}
 use Rattle.opus_header.proofs.Forms.{compact-bytes, compact-size}
 use Rattle.opus_header.proofs.Standing.{compact-needs}
 use Rattle.padding.proofs.Looked.{dirt-is}
-use Rattle.packet_judge.specs.Judging.{leastBytes, said, judgeRead, judged}
+use Rattle.packet_judge.specs.Judging.{leastBytes, said, judgeRead, judged, leastRead, leastLength}
 use Rattle.packet_judge.specs.declared.Judged.the-variants.{Refused, Unreadable, Dirty, Longer, Clean}
 
 -- ---- by the padding, the least length and the bytes taken
@@ -96,6 +97,24 @@ module _ (sd : Bool) (p : List ℕ) where
   pub judged-short : length p ≤ 65535 → judged sd p ≡ judgeRead sd p (read sd p)
   unfolding judged
   judged-short h = rw (le-ltb 65535 (length p) h)
+
+  pub least-long : 65535 < length p → leastLength sd p ≡ length p
+  unfolding leastLength
+  least-long h = rw (lt-ltb 65535 (length p) h)
+
+  pub least-short : length p ≤ 65535 → leastLength sd p ≡ leastRead sd p (read sd p)
+  unfolding leastLength
+  least-short h = rw (le-ltb 65535 (length p) h)
+
+  pub least-unread : (rule : Rule) (place : ℕ) → read sd p ≡ refused rule place → leastLength sd p ≡ length p
+  unfolding leastRead
+  least-unread rule place r =
+      by-test (ltb 65535 (length p)) (λ t. least-long (ltb-true 65535 (length p) t)) (λ t. rw (least-short (ltb-false 65535 (length p) t), r))
+
+  pub least-accepted : length p ≤ 65535 → (toc : ℕ) (ns : List ℕ) (first taken : ℕ) → read sd p ≡ accepted toc ns first taken
+      → leastLength sd p ≡ length (compact sd (upperSix toc) (cut ns (drop first p)))
+  unfolding leastRead leastBytes
+  least-accepted h toc ns first taken r = rw (least-short h, r)
 
   pub long-only : (c : Refusal) → judged sd p ≡ Refused c → (c ≡ BadArg) × (65535 < length p)
   long-only c e =

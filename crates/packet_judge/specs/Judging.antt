@@ -34,6 +34,14 @@ judgeRead sd p (accepted toc ns first taken) =
 unfoldable pub judged : Bool → List ℕ → Judged
 judged sd p = cond (ltb mostPacket (length p)) (Refused BadArg) (judgeRead sd p (read sd p))
 
+-- the least length of a packet, which `weigh_packet` answers beside the verdict: of one that cannot be read its own
+unfoldable pub leastRead : Bool → List ℕ → Reading → ℕ
+leastRead sd p (refused rule place) = length p
+leastRead sd p (accepted toc ns first taken) = leastBytes sd p toc ns first
+
+unfoldable pub leastLength : Bool → List ℕ → ℕ
+leastLength sd p = cond (ltb mostPacket (length p)) (length p) (leastRead sd p (read sd p))
+
 -- the verdict on a packet that the reader refuses, by its refusal; the contract of a function that is not public cites this
 abbrev pub unread : Refusal → Judged
 unread BadArg = Refused BadArg

@@ -5,7 +5,7 @@ ghost use lib.ListN.{length};
 ghost use Rattle.opus_size.specs.Size.{mostBytes};
 ghost use Rattle.opus_format.specs.Frames.{total, longest};
 ghost use Rattle.opus_format.specs.Reading.{accepted};
-ghost use Rattle.packet_judge.specs.Judging.{unread, said, judgeRead, judged as Judging·judged};
+ghost use Rattle.packet_judge.specs.Judging.{unread, said, judgeRead, judged as Judging·judged, leastRead, leastLength};
 ghost use Rattle.packet_judge.specs.Tallies.{tallied as Tallies·tallied, sumOf};
 use opus::Short;
 use opus_defines::Refusal;
@@ -24,6 +24,12 @@ pub enum Judged {
     // Its frames and upper six TOC bits fit in so many bytes, which are fewer than it takes.
     Longer(usize),
     Clean,
+}
+
+// A verdict, and the bytes of the compact packet; of one that cannot be read, or is too long, its own.
+pub struct Weighed {
+    pub verdict: Judged,
+    pub least: usize,
 }
 
 // How many verdicts of each kind there were.
@@ -58,21 +64,27 @@ fn verdict(dirt: bool, least: usize, taken: usize) -> Judged
 }
 
 // The same from the bytes: frames of lengths `ns` from `first` on, and `taken` bytes in all. No TOC byte makes a difference.
-fn judge_read(data: &[u8], self_delimited: bool, ns: &[u16], first: usize, taken: usize) -> Judged
+fn weigh_read(data: &[u8], self_delimited: bool, ns: &[u16], first: usize, taken: usize) -> Weighed
     requires some { ⌜ (1 ≤ length (now ns)) × (length (now ns) ≤ 48) × (longest (now ns) ≤ mostBytes) ⌝ }
     requires block { ⌜ (first + total (now ns) ≤ taken) × (taken ≤ length (now «data»)) ⌝ }
-    ensures { λ r. ⌜ ((toc : ℕ) → r ≡ judgeRead «self_delimited» (now («data» .entry)) (accepted toc (now (ns .entry)) first taken)) ⌝ }
+    ensures verdict { λ r. ⌜ ((toc : ℕ) → r .verdict
+        ≡ judgeRead «self_delimited» (now («data» .entry)) (accepted toc (now (ns .entry)) first taken)) ⌝ }
+    ensures least { λ r. ⌜ ((toc : ℕ) → r .least ≡ leastRead «self_delimited» (now («data» .entry)) (accepted toc (now (ns .entry)) first taken)) ⌝ }
 {
     let m = opus_header::sums_of(ns);
     let from = first + m.total;
     let dirt = padding::dirt_in(&data[from..taken]);
     let least = opus_header::compact_bytes(ns.len(), m, self_delimited);
-    verdict(dirt, least, taken)
+    Weighed {
+        verdict: verdict(dirt, least, taken),
+        least,
+    }
 }
 
 // Reads any packet, and judges it.
-fn judge_whole(data: &[u8], self_delimited: bool) -> Judged
-    ensures { λ r. ⌜ r ≡ Judging·judged «self_delimited» (now («data» .entry)) ⌝ }
+fn weigh_whole(data: &[u8], self_delimited: bool) -> Weighed
+    ensures verdict { λ r. ⌜ r .verdict ≡ Judging·judged «self_delimited» (now («data» .entry)) ⌝ }
+    ensures least { λ r. ⌜ r .least ≡ leastLength «self_delimited» (now («data» .entry)) ⌝ }
 {
     let mut lengths = [0u16; 48];
     let p = opus::read_into(data, self_delimited, &mut lengths);
@@ -81,36 +93,64 @@ fn judge_whole(data: &[u8], self_delimited: bool) -> Judged
         let n = p.count;
         let first = p.first;
         let taken = p.taken;
-        return judge_read(data, self_delimited, &lengths[..n], first, taken);
+        return weigh_read(data, self_delimited, &lengths[..n], first, taken);
     };
-    refused(e)
+    Weighed {
+        verdict: refused(e),
+        least: data.len(),
+    }
 }
 
-// Judges the packet at the front of `data`, which in the ordinary form is all of it. What stands behind a self-delimited packet is no part of it.
+// Judges a packet as `judge_packet` does, and answers its least length beside the verdict, by one reading.
 // An ordinary one of code 0, 1 or 2 has no padding, and is read without an array: only two frames of one length in code 2 are longer than needed.
-pub fn judge_packet(data: &[u8], self_delimited: bool) -> Judged
-    ensures { λ r. ⌜ r ≡ Judging·judged «self_delimited» (now («data» .entry)) ⌝ }
+pub fn weigh_packet(data: &[u8], self_delimited: bool) -> Weighed
+    ensures verdict { λ r. ⌜ r .verdict ≡ Judging·judged «self_delimited» (now («data» .entry)) ⌝ }
+    ensures least { λ r. ⌜ r .least ≡ leastLength «self_delimited» (now («data» .entry)) ⌝ }
 {
     if self_delimited {
-        return judge_whole(data, true);
+        return weigh_whole(data, true);
     }
     let s = opus::short_at(data);
     match s {
-        Short::One(_, _) => Judged::Clean,
+        Short::One(_, _) => Weighed {
+            verdict: Judged::Clean,
+            least: data.len(),
+        },
         Short::Two(m, n, _) => {
             if m != n {
-                return Judged::Clean;
+                return Weighed {
+                    verdict: Judged::Clean,
+                    least: data.len(),
+                };
             }
-            verdict(false, 1 + 2 * n as usize, data.len())
+            let least = 1 + 2 * n as usize;
+            Weighed {
+                verdict: verdict(false, least, data.len()),
+                least,
+            }
         }
         Short::Broken(rule, place) => {
             if opus::MOST_PACKET < data.len() {
-                return Judged::Refused(Refusal::BadArg);
+                return Weighed {
+                    verdict: Judged::Refused(Refusal::BadArg),
+                    least: data.len(),
+                };
             }
-            Judged::Unreadable(rule, place)
+            Weighed {
+                verdict: Judged::Unreadable(rule, place),
+                least: data.len(),
+            }
         }
-        Short::Counted => judge_whole(data, false),
+        Short::Counted => weigh_whole(data, false),
     }
+}
+
+// Judges the packet at the front of `data`, which in the ordinary form is all of it. What stands behind a self-delimited packet is no part of it.
+pub fn judge_packet(data: &[u8], self_delimited: bool) -> Judged
+    ensures { λ r. ⌜ r ≡ Judging·judged «self_delimited» (now («data» .entry)) ⌝ }
+{
+    let w = weigh_packet(data, self_delimited);
+    w.verdict
 }
 
 // One verdict more.

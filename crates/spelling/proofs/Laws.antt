@@ -2,7 +2,6 @@
 --     original-is, compact-is     what is handed back in either spelling
 --     no-longer, not-empty        how long it is
 --     roomy, cramped              a room that holds what the longest room would give, and one that does not
---     plain-stays                 a packet of code 0 or 1 stays as it is
 --     again                       what is handed back stays as it is
 -- Assumes nothing.
 use Prim.Native.Nat.{ℕ, _≤_, _<_}
@@ -11,18 +10,17 @@ use mathlib.Core.Path.{_≡_, sym, ap, _∙_}
 use mathlib.Core.List.{List}
 use mathlib.Core.Bool.{false}
 use lib.Dec.{ltb}
-use lib.ListN.{length, getD, drop}
+use lib.ListN.{length, drop}
 use borrow.Author.Tests.{ltb-true, ltb-false}
 use Rattle.laws.specs.Bytes.{Bytes}
 use Rattle.laws.proofs.Never.{by-test}
 use Rattle.opus_defines.specs.Bounds.{mostPacket}
 use Rattle.opus_defines.specs.Rules.{ruleRefusal}
 use Rattle.opus_defines.specs.Outcome.{written}
-use Rattle.opus_toc.specs.Toc.{code, upperSix}
+use Rattle.opus_toc.specs.Toc.{upperSix}
 use Rattle.opus_format.specs.Frames.{cut}
 use Rattle.opus_format.specs.Format.{Spells}
 use Rattle.opus_header.specs.Compact.{compact}
-use Rattle.opus_header.proofs.Plain.{plain-least}
 use Rattle.opus_header.proofs.Rebuilt.{rebuilds, compact-of}
 use Rattle.packet_pad.specs.Unpad.{unpadPacket}
 use Rattle.packet_pad.proofs.Spelled.{read-whole, unpads}
@@ -87,14 +85,6 @@ module _ (p : List ℕ) (room : ℕ) (short : length p ≤ 65535) where
       by-unpad p
       (λ rule place r u. (unread-original p room (ruleRefusal rule place) u, omega (arith, no-longer p mostPacket)))
       (λ toc ns first taken r u. written-cramped (compact false (upperSix toc) (cut ns (drop first p))) u k)
-
--- ---- codes 0 and 1
-pub plain-stays : (p : List ℕ) (room : ℕ) → Bytes p → code (getD p 0 0) < 2 → shorter p room ≡ p
-plain-stays p room bytes c =
-    handed-original p room
-    (by-unpad p (λ rule place r u. unread-original p room (ruleRefusal rule place) u)
-    (λ toc ns first taken r u. no-shorter p room (compact false (upperSix toc) (cut ns (drop first p))) u
-    (plain-least (read-whole p toc ns first taken bytes r) c)))
 
 -- ---- a second time
 -- the compact packet of a packet is its own

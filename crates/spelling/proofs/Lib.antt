@@ -1,5 +1,6 @@
 pub mod Choice
 pub mod Laws
+pub mod Kept
 pub mod Telling
 pub mod Put
 pub mod Handed

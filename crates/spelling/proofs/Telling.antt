@@ -1,12 +1,11 @@
 -- What the code takes of a packet is the shorter spelling.
 --     refused-told           a packet that the reader refuses
 --     Readable, readable     a packet that it accepts: where its frames lie, and what the spelling goes by
---     length-told, length-left     the bytes of the shorter spelling
 --     part-told              the first bytes of the work buffer, where the compact packet is taken
 -- Assumes nothing.
-use Prim.Native.Nat.{ℕ, _+_, _<_, _≤_}
+use Prim.Native.Nat.{ℕ, _+_, _≤_}
 use native.Mathlib.Omega.{arith}
-use mathlib.Core.Path.{_≡_, sym, ap, _∙_}
+use mathlib.Core.Path.{_≡_, sym, _∙_}
 use mathlib.Core.List.{List}
 use mathlib.Core.Bool.{false}
 use lib.Dec.{ltb}
@@ -16,7 +15,6 @@ use borrow.Author.Tests.{ltb-true, ltb-false}
 use Rattle.laws.specs.Bytes.{Bytes}
 use Rattle.laws.proofs.Never.{by-test}
 use Rattle.blocks.proofs.Sets.{take-sets}
-use Rattle.opus_defines.specs.Bounds.{mostPacket}
 use Rattle.opus_defines.specs.Rules.{ruleRefusal}
 use Rattle.opus_defines.specs.Outcome.{written}
 use Rattle.opus_defines.specs.declared.Refusal.{Refusal}
@@ -30,17 +28,12 @@ use Rattle.opus.specs.declared.PacketHead.{PacketHead}
 use Rattle.opus.proofs.Parsed.{lengthsOf, parsed-accepted, parsed-refused}
 use Rattle.opus.proofs.Lent.{packetWith, lent-accepted}
 use Rattle.opus_header.specs.Compact.{compact}
-use Rattle.opus_header.specs.Sums.{sumsOf}
-use Rattle.opus_header.specs.Forms.{compactBytes}
-use Rattle.opus_header.specs.declared.Sums.{Sums}
-use Rattle.opus_header.proofs.Standing.{compact-needs}
 use Rattle.padding.proofs.Looked.{framed}
 use Rattle.spelling.specs.Spelling.{spellingOf, spelling, compactOf, shorter, workAfter}
 use Rattle.spelling.specs.declared.Spelling.{Spelling}
 use Rattle.spelling.specs.declared.Spelling.the-variants.{Original, Compact}
 use Rattle.packet_pad.proofs.Unpadding.{unpad-unread, unpad-taken}
-use Rattle.spelling.proofs.Choice.{long-original, unread-original, written-is, no-shorter, fits}
-use Rattle.spelling.proofs.Choice.{compact-written, compact-told, handed-original, handed-compact}
+use Rattle.spelling.proofs.Choice.{long-original, unread-original, written-is, compact-written, compact-told, handed-compact}
 
 -- ---- the reader's answer
 module _ (p : List ℕ) (room : ℕ) (h : PacketHead) (l : List ℕ) (e : answerOf h l ≡ parsed false p) where
@@ -75,25 +68,6 @@ module _ (p : List ℕ) (room : ℕ) (h : PacketHead) (l : List ℕ) (e : answer
         block = omega (arith, f .block, f .within);
         goes-by = λ w s b. (s ∙ written-is p room rebuilt u (d .short), rw (compact-written p rebuilt u) b);
       }
-
-  -- the bytes of the shorter spelling, by those that the compact packet needs
-  pub length-told : Bytes p → h .verdict ≡ Accepted → (m : Sums) → m ≡ sumsOf (lengthsOf answer)
-      → (need : ℕ) → need ≡ compactBytes (answer .count) m false
-      → (need < length p → need ≡ length (shorter p mostPacket)) × (length p ≤ need → length p ≡ length (shorter p mostPacket))
-  length-told bytes v m s need k =
-      let r = readable bytes v in
-      let d = parsed-accepted false p answer (lent-accepted false p h l e v) v in
-      let u = unpad-taken p (answer .toc) (lengthsOf answer) (answer .first) (answer .taken) (d .means) in
-      let long : length rebuilt ≡ need = compact-needs false (upperSix (answer .toc)) (lengthsOf answer) p (answer .first) (r .block) m s need
-      (rw (length-take-le (answer .count) (answer .lengths) (r .inside)) k) in (
-        λ less.
-            let c = fits p mostPacket rebuilt u (d .short) (omega (arith, long)) (omega (arith, long, d .short)) in
-            sym long ∙ ap length (sym (handed-compact p mostPacket (length rebuilt) c ∙ compact-written p rebuilt u)),
-        λ more. ap length (sym (handed-original p mostPacket (no-shorter p mostPacket rebuilt u (omega (arith, long))))),
-      )
-
-  pub length-left : {c : Refusal} → h .verdict ≡ Refused c → length p ≡ length (shorter p room)
-  length-left v = ap length (sym (handed-original p room (sym (refused-told v))))
 
 -- ---- the work buffer w, which has become x
 module _ (p w x : List ℕ) (s : Spelling) (n : ℕ) (is : s ≡ Compact n) (e : s ≡ spelling p (length w)) (f : x ≡ workAfter (compactOf p) w s) where

@@ -1,6 +1,7 @@
 -- What is handed back, by what the packet is judged to be (document 02, M-110).
 --     unread-stays, clean-stays        it cannot be read, or is clean
 --     longer-least, dirty-shorter      it is longer than needed, or dirty
+--     shorter-least                    the least length, whatever the verdict
 -- Assumes nothing.
 use Prim.Native.Nat.{ℕ, _≤_, _<_}
 use native.Mathlib.Omega.{arith}
@@ -22,9 +23,9 @@ use Rattle.opus_format.proofs.Sound.{ordinary-whole}
 use Rattle.opus_header.specs.Compact.{compact}
 use Rattle.opus_header.proofs.Shortest.{shortest}
 use Rattle.packet_pad.proofs.Spelled.{read-whole}
-use Rattle.packet_judge.specs.Judging.{judged}
+use Rattle.packet_judge.specs.Judging.{judged, leastLength}
 use Rattle.packet_judge.specs.declared.Judged.the-variants.{Unreadable, Dirty, Longer, Clean}
-use Rattle.packet_judge.proofs.Verdicts.{unreadable-said}
+use Rattle.packet_judge.proofs.Verdicts.{unreadable-said, least-unread, least-accepted}
 use Rattle.packet_judge.proofs.Taken.{longer-told, clean-told, compact-said}
 use Rattle.spelling.specs.Spelling.{spelling, shorter}
 use Rattle.spelling.specs.declared.Spelling.the-variants.{Original}
@@ -58,6 +59,13 @@ module _ (p : List ℕ) (short : length p ≤ 65535) (bytes : Bytes p) (toc : �
       let most = least p toc ns first taken r short (t .packet) (t .spelled) in
       omega (arith, t .long, t .least (shorter p mostPacket) (spells p toc ns first taken r bytes mostPacket))
 
+  least-is : length (shorter p mostPacket) ≡ leastLength false p
+  least-is =
+      ⊎-elim (λ (e : p ≡ rebuilt). ap length (leaves-it p toc ns first taken r mostPacket (inl (omega (arith, ap length e))) .0 ∙ e))
+      (λ (h : length rebuilt < length p). ap length (takes p toc ns first taken r mostPacket short h (omega arith) .0))
+      (shortest (read-whole p toc ns first taken bytes r))
+      ∙ sym (least-accepted false p short toc ns first taken r)
+
   dirty-less : judged false p ≡ Dirty → length (shorter p mostPacket) < length p
   dirty-less j =
       ⊎-elim (λ (e : p ≡ rebuilt). never (let c = compact-said false p toc ns first taken bytes r short (all ∙ e) in cc))
@@ -83,3 +91,8 @@ module _ (p : List ℕ) (short : length p ≤ 65535) (bytes : Bytes p) where
 
   pub dirty-shorter : judged false p ≡ Dirty → length (shorter p mostPacket) < length p
   dirty-shorter j = by-reading (λ rule place r u. never (cc)) (λ toc ns first taken r. dirty-less p short bytes toc ns first taken r j)
+
+  pub shorter-least : length (shorter p mostPacket) ≡ leastLength false p
+  shorter-least =
+      by-reading (λ rule place r u. ap length (unread-stays p mostPacket rule place r .0) ∙ sym (least-unread false p rule place r))
+      (λ toc ns first taken r. least-is p short bytes toc ns first taken r)

@@ -1,16 +1,17 @@
 // The shorter of a packet's two spellings (document 02, M-103): the compact packet, or the packet as it is.
 ghost use mathlib.Core.Path.{_≡_};
-ghost use mathlib.Core.Bool.{false};
+ghost use mathlib.Core.Bool.{true, false};
 ghost use Prim.Native.Nat.{_+_, _≤_};
-ghost use lib.ListN.{length, drop};
+ghost use lib.ListN.{length, getD, drop};
 ghost use Rattle.opus_size.specs.Size.{mostBytes};
-ghost use Rattle.opus_toc.specs.Toc.{upperSix};
+ghost use Rattle.opus_toc.specs.Toc.{code, upperSix};
 ghost use Rattle.opus_format.specs.Frames.{cut, total, longest};
 ghost use Rattle.opus_defines.specs.Bounds.{mostPacket};
 ghost use Rattle.opus_defines.specs.Outcome.{written};
 ghost use Rattle.opus_header.specs.Compact.{compact};
 ghost use Rattle.spelling.specs.Spelling.{spellingOf, spelling, compactOf, shorter as Spelling·shorter, workAfter};
 use opus_defines::Verdict;
+use opus_defines::wide_byte;
 
 // Which spelling is taken: the packet's own, or the compact one, of so many bytes.
 pub enum Spelling {
@@ -60,25 +61,6 @@ pub fn spell(packet: &[u8], work: &mut [u8]) -> Spelling
     Spelling::Original
 }
 
-// The bytes of a packet in its shorter spelling, with 65,535 bytes of work room.
-pub fn shorter_length(packet: &[u8]) -> usize
-    ensures { λ r. ⌜ r ≡ length (Spelling·shorter (now (packet .entry)) mostPacket) ⌝ }
-{
-    let mut ns = [0u16; 48];
-    let p = opus::read_into(packet, false, &mut ns);
-    let v = p.verdict;
-    let Verdict::Refused(_) = v else {
-        let n = p.count;
-        let m = opus_header::sums_of(&ns[..n]);
-        let need = opus_header::compact_bytes(n, m, false);
-        if need < packet.len() {
-            return need;
-        }
-        return packet.len();
-    };
-    packet.len()
-}
-
 // The chooser: the packet in its shorter spelling, as a part of `work` or the packet itself.
 pub fn shorter<'a>(packet: &'a [u8], work: &'a mut [u8]) -> &'a [u8]
     ensures { λ r. ⌜ now r ≡ Spelling·shorter (now (packet .entry)) (length (now (work .entry))) ⌝ }
@@ -88,4 +70,61 @@ pub fn shorter<'a>(packet: &'a [u8], work: &'a mut [u8]) -> &'a [u8]
     };
     let t = &work[..];
     &t[..n]
+}
+
+// Whether a packet of code 2 is seen to have two lengths: the first one's field has a byte, and that does not say half of the rest.
+fn uneven(packet: &[u8]) -> bool
+    requires { ⌜ (2 ≤ length (now packet)) × (code (getD (now packet) 0 0) ≡ 2) ⌝ }
+    ensures { λ r. ⌜ (r ≡ true → Spelling·shorter (now (packet .entry)) mostPacket ≡ now (packet .entry)) ⌝ }
+{
+    let n = packet[1];
+    if 252 <= n {
+        return false;
+    }
+    if 2 + 2 * wide_byte(n) == packet.len() {
+        return false;
+    }
+    true
+}
+
+// Whether a packet of code 3 with its flag for unequal lengths is seen to have such: the first one's field has a byte, and the second's begins with another.
+fn unequal(packet: &[u8]) -> bool
+    requires coded { ⌜ (4 ≤ length (now packet)) × (code (getD (now packet) 0 0) ≡ 3) ⌝ }
+    requires counted { ⌜ (131 ≤ getD (now packet) 1 0) × (getD (now packet) 1 0 ≤ 176) ⌝ }
+    ensures { λ r. ⌜ (r ≡ true → Spelling·shorter (now (packet .entry)) mostPacket ≡ now (packet .entry)) ⌝ }
+{
+    let n = packet[2];
+    if 252 <= n {
+        return false;
+    }
+    if n == packet[3] {
+        return false;
+    }
+    true
+}
+
+// Whether a packet is seen by its first bytes to be the compact one, if it can be read: then it stays as it is. No says nothing.
+// Code 3 without padding, for three frames or more: the count byte is the count, and 128 more where lengths are told.
+pub fn stays(packet: &[u8]) -> bool
+    ensures { λ r. ⌜ (r ≡ true → Spelling·shorter (now (packet .entry)) mostPacket ≡ now (packet .entry)) ⌝ }
+{
+    if packet.len() == 0 {
+        return false;
+    }
+    let c = packet[0] % 4;
+    if c < 2 {
+        return true;
+    }
+    if packet.len() < 4 {
+        return false;
+    }
+    if c == 2 {
+        return uneven(packet);
+    }
+    let n = packet[1];
+    match n {
+        3..=48 => true,
+        131..=176 => unequal(packet),
+        _ => false,
+    }
 }

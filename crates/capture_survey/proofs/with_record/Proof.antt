@@ -1,27 +1,38 @@
 -- `capture_survey::with_record` meets its contract.
 -- Assumes nothing.
-use native.Mathlib.Omega.{arith}
+use Prim.Native.Nat.{_-_, _≤_}
+use mathlib.Core.Path.{_≡_}
+use lib.ListN.{length}
 use borrow.Author.Needs.{needs}
-use mathlib.Core.Bool.{false}
-use Rattle.capture_survey.proofs.Savings.{saved-most}
+use Rattle.capture_survey.specs.Survey.{saved}
+use Rattle.capture_survey.proofs.Savings.{saved-least}
 use Rattle.capture_survey.proofs.Counting.{one-more}
 use Rattle.capture_survey.proofs.with_record.Statement.{statement}
 use Rattle.capture_survey.proofs.with_record.Tie as tie
 
-abbrev entry : tie.After-struct-known4 → tie.Start
-entry c = c .before .before .before .before .before .before .before .before
+-- where the packet was weighed, and the entry
+abbrev weighed : tie.After-struct-known4 → tie.After-weigh-packet
+weighed c = c .before .before .before .before .before
 
-add-t11 : tie.Need-add-t11
-add-t11 c =
+abbrev entry : tie.After-weigh-packet → tie.Start
+entry c = c .before .before
+
+least : (c : tie.After-weigh-packet)
+    → let p = entry c .args .packet .now in
+    let n = c .weigh-packet .result .least in
+    (n ≤ length p) × (length p - n ≡ saved p)
+least c =
     let e = entry c in
-    record { fits = omega (arith, e .pre .0, c .before .saved .ensures, saved-most (e .args .packet .now)) }
+    saved-least (e .args .packet .now) (e .pre .1) (record { byte = λ i. c .before .shared-slice-known .given i .fits }) _ (c .weigh-packet .ensures .1)
+
+sub-t12 : tie.Need-sub-t12
+sub-t12 c = least (weighed c) .0
 
 returns : tie.Need-returns
 returns c =
-    let e = entry c in
-    let t = c .before .before in
-    one-more (e .args .sum) (e .args .passed) (e .args .packet .now) (t .before .before .before .before .judge-packet .ensures) (t .tallied .ensures)
-    (c .before .saved .ensures)
+    let w = weighed (c .before) in
+    let e = entry w in
+    one-more (e .args .sum) (e .args .passed) (e .args .packet .now) (w .weigh-packet .ensures .0) (c .before .before .tallied .ensures) (least w .1)
 
 pub with-record-spec : {M : Type 1} → statement M
 with-record-spec =
@@ -32,6 +43,6 @@ with-record-spec =
     (λ c. search needs)
     (λ c. search needs)
     (λ c κs. search needs)
-    (λ c κs. search needs)
-    add-t11
+    sub-t12
+    (λ c. search needs)
     returns)

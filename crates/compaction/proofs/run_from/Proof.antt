@@ -2,10 +2,14 @@
 -- Assumes nothing.
 use Prim.Native.Nat.{_+_, _-_, _≤_}
 use native.Mathlib.Omega.{arith}
-use mathlib.Core.Path.{refl}
+use mathlib.Core.Path.{_≡_, refl}
+use mathlib.Core.Bool.{false, not}
 use borrow.Author.Needs.{needs}
+use borrow.Author.Tests.{not-false}
 use lib.ListN.{length}
-use Rattle.compaction.proofs.Running.{Found, none-found, told, next-within, next-found}
+use Rattle.opus_defines.specs.Bounds.{mostPacket}
+use Rattle.spelling.specs.Spelling.{shorter}
+use Rattle.compaction.proofs.Running.{Found, none-found, told, next-within, piece, next-found}
 use Rattle.compaction.proofs.run_from.Statement.{statement}
 use Rattle.compaction.proofs.run_from.Tie as tie
 
@@ -41,39 +45,59 @@ add-if1 c = omega (arith, ends c)
 returns : tie.Need-returns Inv-loop μ-loop
 returns c = told (found (c .before))
 
-add-if2 : tie.Need-add-if2 Inv-loop μ-loop
-add-if2 c = omega (arith, ends (c .before))
+add-first : tie.Need-add-first Inv-loop μ-loop
+add-first c = omega (arith, ends (c .before))
 
-shared-slice-read-if2 : tie.Need-shared-slice-read-if2 Inv-loop μ-loop
-shared-slice-read-if2 c = omega (arith, ends (c .before .before), c .before .before .loop-test .taken)
+add-stays : tie.Need-add-stays Inv-loop μ-loop
+add-stays c = omega (arith, ends (c .before))
+
+sub-stays : tie.Need-sub-stays Inv-loop μ-loop
+sub-stays c = omega (arith, ends (c .before))
+
+part-stays-start : tie.Need-part-stays-start Inv-loop μ-loop
+part-stays-start c = omega (arith, ends (c .before))
+
+part-stays-end : tie.Need-part-stays-end Inv-loop μ-loop
+part-stays-end c = omega (arith, ends (c .before))
+
+-- where the packet was looked at
+abbrev looked : tie.After-stays Inv-loop μ-loop → tie.In-loop Inv-loop μ-loop
+looked c = c .before .before .before
+
+-- and is seen to stay as it is
+stayed : (c : tie.After-stays Inv-loop μ-loop) → not (c .stays .result) ≡ false
+    → let p = piece (found (looked c)) (looked c .loop-test .taken) in shorter p mostPacket ≡ p
+stayed c e = c .stays .ensures (not-false (c .stays .result) e)
 
 returns-2 : tie.Need-returns-2 Inv-loop μ-loop
-returns-2 c = told (found (c .before .before .before))
+returns-2 c = told (found (looked (c .before)))
 
 add-end : tie.Need-add-end Inv-loop μ-loop
-add-end c = omega (arith, ends (c .before .before .before))
+add-end c = omega (arith, ends (looked (c .before)))
 
 add-end-2 : tie.Need-add-end-2 Inv-loop μ-loop
-add-end-2 c = omega (arith, ends (c .before .before .before))
+add-end-2 c = omega (arith, ends (looked (c .before)))
 
 add-records : tie.Need-add-records Inv-loop μ-loop
-add-records c = omega (arith, ends (c .before .before .before), found (c .before .before .before) .count)
+add-records c = let i = looked (c .before) in omega (arith, ends i, found i .count)
 
 sub-if3 : tie.Need-sub-if3 Inv-loop μ-loop
-sub-if3 c = omega (arith, found (c .before .before .before) .from)
+sub-if3 c = omega (arith, found (looked (c .before)) .from)
 
 returns-3 : tie.Need-returns-3 Inv-loop μ-loop
 returns-3 c =
-    let i = c .before .before .before .before in
-    told (next-found (found i) (i .loop-test .taken) (c .before .before .before .if1 .left) (c .before .if2 .left) _ refl)
+    let k = c .before .before in
+    let i = looked k in
+    told (next-found (found i) (i .loop-test .taken) (k .before .before .if1 .left) (stayed k (c .before .if2 .left)) _ refl)
 
 loop-less : tie.Need-loop-less Inv-loop μ-loop
-loop-less c = omega (arith, ends (c .before .before .before .before .before))
+loop-less c = omega (arith, ends (looked (c .before .before .before)))
 
 loop-again : tie.Need-loop-again Inv-loop μ-loop
 loop-again c =
-    let i = c .before .before .before .before .before in
-    next-found (found i) (i .loop-test .taken) (c .before .before .before .before .if1 .left) (c .before .before .if2 .left) (c .packet-length2 .result)
+    let k = c .before .before .before in
+    let i = looked k in
+    next-found (found i) (i .loop-test .taken) (k .before .before .if1 .left) (stayed k (c .before .before .if2 .left)) (c .packet-length2 .result)
     (c .packet-length2 .ensures)
 
 returns-4 : tie.Need-returns-4 Inv-loop μ-loop
@@ -91,8 +115,12 @@ run-from-spec =
     sub-if1-2
     add-if1
     returns
-    add-if2
-    shared-slice-read-if2
+    add-first
+    add-stays
+    sub-stays
+    part-stays-start
+    part-stays-end
+    (λ c κs. search needs)
     returns-2
     add-end
     add-end-2

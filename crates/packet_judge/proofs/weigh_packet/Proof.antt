@@ -1,13 +1,13 @@
--- `packet_judge::judge_packet` meets its contract: by what was read without an array, and any other packet is read whole.
+-- `packet_judge::weigh_packet` meets its contract: by what was read without an array, and any other packet is read whole.
 -- Assumes nothing.
 use mathlib.Core.Path.{sym}
 use borrow.Author.Needs.{needs}
 use Rattle.laws.specs.Bytes.{Bytes}
 use Rattle.opus.proofs.AtShort.{none-read}
-use Rattle.packet_judge.proofs.Verdicts.{judged-long, unreadable-said}
+use Rattle.packet_judge.proofs.Verdicts.{judged-long, unreadable-said, least-long, least-unread}
 use Rattle.packet_judge.proofs.Short.{one-clean, equal-said, unequal-clean}
-use Rattle.packet_judge.proofs.judge_packet.Statement.{statement}
-use Rattle.packet_judge.proofs.judge_packet.Tie as tie
+use Rattle.packet_judge.proofs.weigh_packet.Statement.{statement}
+use Rattle.packet_judge.proofs.weigh_packet.Tie as tie
 
 -- the entry, and the packet as a list of bytes
 abbrev entry : tie.After-short-at → tie.Start
@@ -17,7 +17,7 @@ bytes : (c : tie.After-short-at) → Bytes (entry c .args .«data» .now)
 bytes c = record { byte = λ i. c .before .before .shared-slice-known .given i .fits }
 
 returns : tie.Need-returns
-returns c = rw (c .before .if1 .taken) (c .judge-whole .ensures)
+returns c = rw (c .before .if1 .taken) (c .weigh-whole .ensures)
 
 returns-2 : tie.Need-returns-2
 returns-2 c =
@@ -29,7 +29,8 @@ returns-2 c =
 returns-3 : tie.Need-returns-3
 returns-3 c =
     let k = c .before .before .before .before in
-    rw (k .before .if1 .left) (sym (judged-long _ (entry k .args .«data» .now) (c .if3 .taken)))
+    let p = entry k .args .«data» .now in
+    rw (k .before .if1 .left) (sym (judged-long _ p (c .if3 .taken)), sym (least-long _ p (c .if3 .taken)))
 
 returns-4 : tie.Need-returns-4
 returns-4 c =
@@ -50,14 +51,14 @@ returns-6 c =
     let k = c .before .before .before .before in
     let p = entry k .args .«data» .now in
     let s = c .before .before .s2 in
-    rw (k .before .if1 .left)
-    (sym (unreadable-said _ p (c .if3 .left) _ _ (none-read p (bytes k) (k .short-at .result) (k .short-at .ensures) _ _ (s .given .1))))
+    let unread = none-read p (bytes k) (k .short-at .result) (k .short-at .ensures) _ _ (s .given .1) in
+    rw (k .before .if1 .left) (sym (unreadable-said _ p (c .if3 .left) _ _ unread), sym (least-unread _ p _ _ unread))
 
 returns-7 : tie.Need-returns-7
-returns-7 c = rw (c .before .before .before .before .if1 .left) (c .judge-whole2 .ensures)
+returns-7 c = rw (c .before .before .before .before .if1 .left) (c .weigh-whole2 .ensures)
 
-pub judge-packet-spec : {M : Type 1} → statement M
-judge-packet-spec =
+pub weigh-packet-spec : {M : Type 1} → statement M
+weigh-packet-spec =
     tie.close
     (tie.spec
     (λ c κs. search needs)

@@ -1,4 +1,4 @@
--- `packet_judge::judge_read` meets its contract: the bytes behind the frames are looked at, then the least length.
+-- `packet_judge::weigh_read` meets its contract: the bytes behind the frames are looked at, then the least length.
 -- Assumes nothing.
 use Prim.Native.Nat.{_+_}
 use native.Mathlib.Omega.{arith}
@@ -6,9 +6,9 @@ use mathlib.Core.Path.{_≡_}
 use borrow.Author.Needs.{needs}
 use Rattle.opus_format.specs.Frames.{total}
 use Rattle.opus_header.proofs.Forms.{sums-few}
-use Rattle.packet_judge.proofs.Telling.{frames-end, bytes-told}
-use Rattle.packet_judge.proofs.judge_read.Statement.{statement}
-use Rattle.packet_judge.proofs.judge_read.Tie as tie
+use Rattle.packet_judge.proofs.Telling.{frames-end, least-told, bytes-told}
+use Rattle.packet_judge.proofs.weigh_read.Statement.{statement}
+use Rattle.packet_judge.proofs.weigh_read.Tie as tie
 
 -- the entry
 abbrev entry : tie.After-sums-of → tie.Start
@@ -43,11 +43,15 @@ returns c =
     let m = d .before .before .before in
     let s = entry m in
     let a = s .args in
-    bytes-told (a .self-delimited) (a .«data» .now) (a .ns .now) (a .first) (a .taken) (s .pre .1) (m .sums-of .result) (m .sums-of .ensures)
-    (d .dirt-in .result) (d .dirt-in .ensures) (b .compact-bytes .result) (b .compact-bytes .ensures) (c .verdict .ensures)
+    let p = a .«data» .now in (
+      bytes-told (a .self-delimited) p (a .ns .now) (a .first) (a .taken) (s .pre .1) (m .sums-of .result) (m .sums-of .ensures)
+          (b .compact-bytes .result) (b .compact-bytes .ensures) (d .dirt-in .result) (d .dirt-in .ensures) (c .verdict .ensures),
+      least-told (a .self-delimited) p (a .ns .now) (a .first) (a .taken) (s .pre .1) (m .sums-of .result) (m .sums-of .ensures)
+          (b .compact-bytes .result) (b .compact-bytes .ensures),
+    )
 
-pub judge-read-spec : {M : Type 1} → statement M
-judge-read-spec =
+pub weigh-read-spec : {M : Type 1} → statement M
+weigh-read-spec =
     tie.close
     (tie.spec
     (λ c κs. search needs)
