@@ -1,6 +1,7 @@
 -- The part at the front of what is held, surveyed in one walk: what is found in what is held is what stands in the part.
 --     partBytes, part-within                         how many bytes the part has
 --     Walking, walking-start                         where the loop stands
+--     seen, is-seen                                  what is found, as an answer
 --     Finds, finds-as, finds-here, finds-last, finds-next     the record that a turn takes
 --     record-ends, one-room, one-short, walks-on     what the turn needs, and leads to
 --     Walked, last-room, ends-last                   the end, where the file ends
@@ -18,9 +19,9 @@ use borrow.Author.Tests.{eqb-true, eqb-false}
 use Rattle.laws.specs.Bytes.{Bytes}
 use Rattle.laws.proofs.Never.{never, by-test}
 use Rattle.laws.proofs.Bytes.{bytes-take}
-use Rattle.capture.specs.Finding.{packetLength, nextRecord}
+use Rattle.capture.specs.Finding.{packetLength, recordFrom, nextRecord}
 use Rattle.capture.specs.declared.NextRecord.{NextRecord}
-use Rattle.capture.proofs.Laws.{within}
+use Rattle.capture.proofs.Laws.{within, next-is}
 use Rattle.capture.proofs.Answers.{next-place, next-passed, next-stands, next-from, next-place-le, next-nothing, next-end, found}
 use Rattle.capture_window.specs.Window.{window, settled}
 use Rattle.capture_window.proofs.Settling.{Reaches, reaches-start, reaches-behind, reaches-next, reaches-end}
@@ -144,6 +145,18 @@ module _ {s : List ℕ} {last : Bool} {before sum : Survey} {at : ℕ} (w : Walk
         over = omega arith;
         reached = w .reached;
       }
+
+  -- the answer of which place and length were found
+  module _ {q n : ℕ} (is : q ≡ recordFrom s at .place) (long : n ≡ recordFrom s at .length) where
+    abbrev pub seen : NextRecord
+    seen = let a = nextRecord s at in record { verdict = a .verdict; line = a .line; place = q; length = n; passed = q - at }
+
+    pub is-seen : seen ≡ nextRecord s at
+    is-seen =
+        let there : q ≡ nextRecord s at .place = rw (next-is s at (at-most .1)) is in
+        let over : q - at ≡ nextRecord s at .passed = omega (arith, there, next-place s at (at-most .1), next-passed s at (at-most .1)) in
+        let bytes : n ≡ nextRecord s at .length = rw (next-is s at (at-most .1)) long in
+        rw (over, there, bytes)
 
   -- one that is found
   module _ {a : NextRecord} (e : a ≡ nextRecord s at) where

@@ -4,6 +4,7 @@ ghost use mathlib.Core.Path.{_≡_};
 ghost use mathlib.Core.Bool.{cond};
 ghost use Prim.Native.Nat.{_+_, _*_, _<_, _≤_, _^_};
 ghost use lib.ListN.{length, take};
+ghost use Rattle.capture.specs.Finding.{recordFrom};
 ghost use Rattle.capture_window.specs.Window.{settled};
 ghost use Rattle.capture_survey.specs.Survey.{ofRecord, ofPassed, together, bytesIn, surveyOf};
 use capture::HEAD_BYTES;
@@ -67,6 +68,29 @@ fn with_passed(sum: Survey, passed: usize) -> Survey
     }
 }
 
+// Where the first record at or after a place stands, and the bytes of its packet. Where there is none: the end, 0.
+struct Standing {
+    place: usize,
+    length: usize,
+}
+
+// Finds it as `capture::next_record` does, with the first byte of a mark sought by words.
+fn standing_from(data: &[u8], at: usize) -> Standing
+    requires { ⌜ at ≤ length (now «data») ⌝ }
+    ensures place { λ r. ⌜ r .place ≡ recordFrom (now («data» .entry)) at .place ⌝ }
+    ensures packet { λ r. ⌜ r .length ≡ recordFrom (now («data» .entry)) at .length ⌝ }
+{
+    let mut place = marks::find_mark(data, at);
+    while place < data.len() {
+        let length = capture::packet_length(data, place);
+        if length != 0 {
+            return Standing { place, length };
+        }
+        place = marks::find_mark(data, place + 1);
+    }
+    Standing { place, length: 0 }
+}
+
 // What is counted so far and of the part at the front of what is held, and the bytes of that part: all at the end of the file, before as many as are settled.
 pub struct Surveyed {
     pub sum: Survey,
@@ -86,10 +110,10 @@ pub fn survey_part(data: &[u8], last: bool, before: Survey) -> Surveyed
         let mut place = at;
         let mut passed: usize = 0;
         if n == 0 {
-            let r = capture::next_record(data, at);
+            let r = standing_from(data, at);
             n = r.length;
             place = r.place;
-            passed = r.passed;
+            passed = place - at;
             if last {
                 if n == 0 {
                     return Surveyed {

@@ -69,7 +69,8 @@ fn weigh_read(data: &[u8], self_delimited: bool, ns: &[u16], first: usize, taken
     requires block { ⌜ (first + total (now ns) ≤ taken) × (taken ≤ length (now «data»)) ⌝ }
     ensures verdict { λ r. ⌜ ((toc : ℕ) → r .verdict
         ≡ judgeRead «self_delimited» (now («data» .entry)) (accepted toc (now (ns .entry)) first taken)) ⌝ }
-    ensures least { λ r. ⌜ ((toc : ℕ) → r .least ≡ leastRead «self_delimited» (now («data» .entry)) (accepted toc (now (ns .entry)) first taken)) ⌝ }
+    ensures least { λ r. ⌜ ((toc : ℕ) → r .least
+        ≡ leastRead «self_delimited» (now («data» .entry)) (accepted toc (now (ns .entry)) first taken)) ⌝ }
 {
     let m = opus_header::sums_of(ns);
     let from = first + m.total;

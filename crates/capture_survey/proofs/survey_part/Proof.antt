@@ -7,7 +7,9 @@ use mathlib.Core.Logic.{⊎-elim}
 use lib.ListN.{length}
 use borrow.Author.Needs.{needs}
 use Rattle.laws.specs.Bytes.{Bytes}
-use Rattle.capture_survey.proofs.Walking.{Walking, Finds, walking-start, finds-as, finds-here, finds-last, finds-next, place-within, record-ends}
+use Rattle.capture.specs.Finding.{nextRecord}
+use Rattle.capture_survey.proofs.Walking.{Walking, walking-start, at-most, seen, is-seen}
+use Rattle.capture_survey.proofs.Walking.{Finds, finds-as, finds-here, finds-last, finds-next, place-within, record-ends}
 use Rattle.capture_survey.proofs.Walking.{one-room, one-short, walks-on, last-room, ends-last, short-room, ends-short}
 use Rattle.capture_survey.proofs.survey_part.Statement.{statement}
 use Rattle.capture_survey.proofs.survey_part.Tie as tie
@@ -21,21 +23,34 @@ abbrev μ-loop : tie.MeasureT-loop
 loop-holds : tie.Need-loop-holds Inv-loop μ-loop
 loop-holds c = let e = c .before in walking-start (e .args .«data» .now) (e .args .last) (e .args .before) (e .pre)
 
+-- the answer at the place of a turn
+abbrev turned : tie.After-standing-from Inv-loop μ-loop → tie.At-loop Inv-loop μ-loop
+turned r = r .before .before .before
+
+answered : (r : tie.After-standing-from Inv-loop μ-loop)
+    → let l = turned r .loop in
+    let f = r .standing-from in
+    seen (l .inv) (f .ensures .0) (f .ensures .1) ≡ nextRecord (turned r .before .before .args .«data» .now) (l .at)
+answered r = is-seen (turned r .loop .inv) (r .standing-from .ensures .0) (r .standing-from .ensures .1)
+
+sub-passed : tie.Need-sub-passed Inv-loop μ-loop
+sub-passed r = omega (arith, place-within (turned r .loop .inv) (answered r))
+
 with-passed-requires : tie.Need-with-passed-requires Inv-loop μ-loop
 with-passed-requires c κs =
     let r = c .before .before in
-    last-room (r .before .before .before .loop .inv) (r .next-record .ensures) (c .before .if2 .taken) (c .if3 .taken)
+    last-room (r .before .before .before .loop .inv) (answered r) (c .before .if2 .taken) (c .if3 .taken)
 
 returns : tie.Need-returns Inv-loop μ-loop
 returns c =
     let i = c .before in
     let r = i .before .before in
-    ends-last (r .before .before .before .loop .inv) (r .next-record .ensures) (i .before .if2 .taken) (i .if3 .taken) (c .with-passed .ensures)
+    ends-last (r .before .before .before .loop .inv) (answered r) (i .before .if2 .taken) (i .if3 .taken) (c .with-passed .ensures)
 
 sub-if4 : tie.Need-sub-if4 Inv-loop μ-loop
 sub-if4 c =
     let r = c .before in
-    omega (arith, place-within (r .before .before .before .loop .inv) (r .next-record .ensures))
+    omega (arith, place-within (r .before .before .before .loop .inv) (answered r))
 
 sub-with-passed : tie.Need-sub-with-passed Inv-loop μ-loop
 sub-with-passed c = omega (arith, c .short-from .ensures)
@@ -45,7 +60,7 @@ with-passed-requires-2 c κs =
     let i = c .before in
     let r = i .before .before in
     let l = r .before .before in
-    short-room (l .before .loop .inv) (r .next-record .ensures) (i .before .if2 .left) (l .packet-length .ensures) (r .before .if1 .taken) (i .if4 .taken)
+    short-room (l .before .loop .inv) (answered r) (i .before .if2 .left) (l .packet-length .ensures) (r .before .if1 .taken) (i .if4 .taken)
     (c .short-from .ensures)
 
 returns-2 : tie.Need-returns-2 Inv-loop μ-loop
@@ -54,7 +69,7 @@ returns-2 c =
     let i = k .before in
     let r = i .before .before in
     let l = r .before .before in
-    ends-short (l .before .loop .inv) (r .next-record .ensures) (i .before .if2 .left) (l .packet-length .ensures) (r .before .if1 .taken) (i .if4 .taken)
+    ends-short (l .before .loop .inv) (answered r) (i .before .if2 .left) (l .packet-length .ensures) (r .before .if1 .taken) (i .if4 .taken)
     (k .short-from .ensures) (c .with-passed2 .ensures)
 
 -- where the ways meet on which a record was found
@@ -67,8 +82,8 @@ one : (c : tie.Joined1 Inv-loop μ-loop)
     Finds (a .«data» .now) (a .last) (l .loop .at) (c .if1 .place) (c .if1 .n) (c .if1 .passed)
 one c =
     let w = turning c .loop .inv in
-    ⊎-elim (λ y. finds-as (y .4) (y .5) (y .6) (finds-last w (y .1 .ensures) (y .2 .taken) (y .3 .left)))
-    (⊎-elim (λ y. finds-as (y .4) (y .5) (y .6) (finds-next w (y .1 .ensures) (y .2 .left) (y .3 .left)))
+    ⊎-elim (λ y. finds-as (y .4) (y .5) (y .6) (finds-last w (is-seen w (y .1 .ensures .0) (y .1 .ensures .1)) (y .2 .taken) (y .3 .left)))
+    (⊎-elim (λ y. finds-as (y .4) (y .5) (y .6) (finds-next w (is-seen w (y .1 .ensures .0) (y .1 .ensures .1)) (y .2 .left) (y .3 .left)))
     (λ y. finds-as (y .1) (y .2) (y .3) (finds-here w (c .before .packet-length .ensures) (y .0 .left))))
     (c .if1 .came)
 
@@ -107,7 +122,8 @@ survey-part-spec =
     μ-loop
     loop-holds
     (λ c κs. search needs)
-    (λ c κs. search needs)
+    (λ c κs. at-most (c .before .before .loop .inv) .1)
+    sub-passed
     with-passed-requires
     returns
     sub-if4
