@@ -30,6 +30,7 @@ void crate_repacketizer_init(void *);
 int32_t crate_repacketizer_cat(void *, const uint8_t *, int32_t);
 int32_t crate_repacketizer_out(void *, uint8_t *, int32_t);
 int32_t crate_repacketizer_out_range(void *, int32_t, int32_t, uint8_t *, int32_t);
+int32_t crate_repacketizer_out_delimited(void *, int32_t, uint8_t *, int32_t, int32_t);
 int32_t crate_packet_pad(uint8_t *, int32_t, int32_t);
 int32_t crate_packet_unpad(uint8_t *, int32_t);
 int32_t crate_multistream_packet_pad(uint8_t *, int32_t, int32_t, int32_t);
@@ -43,6 +44,7 @@ void *opus_repacketizer_init(void *);
 int opus_repacketizer_cat(void *, const uint8_t *, int32_t);
 int32_t opus_repacketizer_out(void *, uint8_t *, int32_t);
 int32_t opus_repacketizer_out_range(void *, int, int, uint8_t *, int32_t);
+int32_t opus_repacketizer_out_range_impl(void *, int, int, uint8_t *, int32_t, int, int);
 int opus_packet_pad(uint8_t *, int32_t, int32_t);
 int32_t opus_packet_unpad(uint8_t *, int32_t);
 int opus_multistream_packet_pad(uint8_t *, int32_t, int32_t, int);
@@ -50,7 +52,7 @@ int32_t opus_multistream_packet_unpad(uint8_t *, int32_t, int);
 
 /* ---- a set */
 
-enum kind { COUNT, READ, READ_SELF, PACK, PACK_STRICT, CUT, CUT_SINGLY, UNPAD, PAD, STREAMS_UNPAD, STREAMS_PAD };
+enum kind { COUNT, READ, READ_SELF, PACK, PACK_STRICT, CUT, CUT_SINGLY, UNPAD, PAD, STREAMS_UNPAD, STREAMS_PAD, JOIN, TAKE };
 enum side { NONE, OURS, CRATE, LIBOPUS, SIDES };
 static const char *side_names[] = {"none", "ours", "crate", "libopus"};
 
@@ -59,7 +61,7 @@ static const char *side_names[] = {"none", "ours", "crate", "libopus"};
 struct set {
     enum kind kind;
     const char *what;                 /* the packets, in words */
-    int packets;                      /* for PACK and CUT; each call else has one */
+    int packets;                      /* for PACK, CUT and JOIN; each call else has one */
     const uint8_t *packet[48];
     int len[48];
     int new_len, streams;             /* for PAD and the multistream calls */
@@ -223,6 +225,71 @@ static int ours_streams_pad(const struct set *s) { return aveluafi_multistream_p
 static int crate_streams_pad(const struct set *s) { return crate_multistream_packet_pad(buffer, s->len[0], s->new_len, s->streams); }
 static int libopus_streams_pad(const struct set *s) { return opus_multistream_packet_pad(buffer, s->len[0], s->new_len, s->streams); }
 
+/* Packets that lie one behind another, joined into a multistream packet. The other sides have no such call: each packet goes through their repacketizer, in one
+   pass and without a look at the others' times, so that a late refusal would leave bytes. */
+static uint16_t joined_lengths[48];
+
+static int ours_join(const struct set *s) {
+    size_t bytes = s->packet[s->packets - 1] + s->len[s->packets - 1] - s->packet[0];
+    return aveluafi_multistream_join(s->packet[0], bytes, joined_lengths, s->packets, buffer, ROOM).number;
+}
+static int crate_join(const struct set *s) {
+    int at = 0;
+    for (int i = 0; i < s->packets; i++) {
+        crate_repacketizer_init(crate_rp);
+        int r = crate_repacketizer_cat(crate_rp, s->packet[i], s->len[i]);
+        if (r != 0) return r;
+        int n = crate_repacketizer_out_delimited(crate_rp, s->frames / s->packets, buffer + at, ROOM - at, i + 1 < s->packets);
+        if (n < 0) return n;
+        at += n;
+    }
+    return at;
+}
+static int libopus_join(const struct set *s) {
+    int at = 0;
+    for (int i = 0; i < s->packets; i++) {
+        opus_repacketizer_init(libopus_rp);
+        int r = opus_repacketizer_cat(libopus_rp, s->packet[i], s->len[i]);
+        if (r != 0) return r;
+        int n = opus_repacketizer_out_range_impl(libopus_rp, 0, s->frames / s->packets, buffer + at, ROOM - at, i + 1 < s->packets, 0);
+        if (n < 0) return n;
+        at += n;
+    }
+    return at;
+}
+
+/* The last stream of a multistream packet: the other sides pass over those before it, and read nothing else of them. */
+static int ours_take(const struct set *s) { return aveluafi_multistream_take(s->packet[0], s->len[0], s->streams, s->streams - 1, buffer, ROOM).number; }
+static int crate_take(const struct set *s) {
+    uint8_t toc;
+    const uint8_t *frames[48];
+    int16_t size[48];
+    int32_t first, taken, at = 0;
+    for (int i = 0; i < s->streams - 1; i++) {
+        int r = crate_packet_parse_impl(s->packet[0] + at, s->len[0] - at, 1, &toc, frames, size, &first, &taken);
+        if (r < 0) return r;
+        at += taken;
+    }
+    crate_repacketizer_init(crate_rp);
+    int r = crate_repacketizer_cat(crate_rp, s->packet[0] + at, s->len[0] - at);
+    return r != 0 ? r : crate_repacketizer_out(crate_rp, buffer, ROOM);
+}
+static int libopus_take(const struct set *s) {
+    uint8_t toc;
+    const uint8_t *frames[48];
+    int16_t size[48];
+    int first;
+    int32_t taken, at = 0;
+    for (int i = 0; i < s->streams - 1; i++) {
+        int r = opus_packet_parse_impl(s->packet[0] + at, s->len[0] - at, 1, &toc, frames, size, &first, &taken);
+        if (r < 0) return r;
+        at += taken;
+    }
+    opus_repacketizer_init(libopus_rp);
+    int r = opus_repacketizer_cat(libopus_rp, s->packet[0] + at, s->len[0] - at);
+    return r != 0 ? r : opus_repacketizer_out(libopus_rp, buffer, ROOM);
+}
+
 typedef int call(const struct set *);
 
 static const struct {
@@ -241,6 +308,8 @@ static const struct {
     [PAD] = {"pad", true, {none, ours_pad, crate_pad, libopus_pad}},
     [STREAMS_UNPAD] = {"multistream unpad", true, {none, ours_streams_unpad, crate_streams_unpad, libopus_streams_unpad}},
     [STREAMS_PAD] = {"multistream pad", true, {none, ours_streams_pad, crate_streams_pad, libopus_streams_pad}},
+    [JOIN] = {"streams joined", false, {none, ours_join, crate_join, libopus_join}},
+    [TAKE] = {"stream taken out", false, {none, ours_take, crate_take, libopus_take}},
 };
 
 /* One call of a side, from the packet as it was. */
@@ -423,6 +492,24 @@ static void make(struct set *s, const char *key) {
         six_streams(s, 60);
         s->new_len = s->len[0] + 200;
         s->moved = 35 + 41 + 46 + 60 + 200;
+    } else if (!strcmp(key, "join-6")) {
+        s->kind = JOIN, s->what = "6 packets of 3 frames, 60 bytes of padding each";
+        for (int i = 0; i < 6; i++) {
+            int n[] = {30 + i, 41, 36 + 2 * i};
+            add_packet(s, SILK_20, 3, n, 3, false, 60, false);
+            s->moved += total(n, 3);
+        }
+    } else if (!strcmp(key, "join-4")) {
+        s->kind = JOIN, s->what = "4 packets of one frame, 80 bytes";
+        for (int i = 0; i < 4; i++) {
+            int n = 80;
+            add_packet(s, CELT_20, 0, &n, 1, false, 0, false);
+            s->moved += n;
+        }
+    } else if (!strcmp(key, "take-6")) {
+        s->kind = TAKE, s->what = "the last of 6 streams of 3 frames, 60 bytes of padding each";
+        six_streams(s, 60);
+        s->moved = 35 + 41 + 46;
     } else if (!strcmp(key, "refused-R1")) {
         s->kind = READ, s->what = "refused, R1: no byte";
         add_front(s, 0, NULL, 0);
@@ -493,7 +580,8 @@ static const char *keys[] = {
     "voice", "voice-count", "read-6", "read-1275", "read-48-equal", "read-48-unequal", "pack-3", "pack-48", "pack-6",
     "strict-3", "strict-48", "strict-6", "cut-3-3", "singly-3-3", "cut-48-48", "singly-48-48", "cut-48-8", "singly-48-8", "cut-48-1", "singly-48-1",
     "unpad-6", "unpad-1275",
-    "streams-unpad", "pad-6-1275", "pad-6-65535", "streams-pad", "refused-R1", "refused-R2", "refused-R3", "refused-R4", "refused-R5-none",
+    "streams-unpad", "pad-6-1275", "pad-6-65535", "streams-pad", "join-4", "join-6", "take-6",
+    "refused-R1", "refused-R2", "refused-R3", "refused-R4", "refused-R5-none",
     "refused-R5-long", "refused-R6", "refused-R6-padding", "refused-R7", "refused-self", NULL};
 static const char *growing[] = {"reader", "pack", "unpad", "pad", NULL};
 static const int lengths[] = {64, 256, 1024, 4096, 16384, 65535, 0};
@@ -504,6 +592,7 @@ static void of(const char *key, struct set *s) {
     memset(s, 0, sizeof *s);
     make(s, key);
     if (s->cuts) hold(s);
+    for (int i = 0; i < s->packets; i++) joined_lengths[i] = s->len[i];
 }
 
 static void each_key(void (*f)(const char *), bool growth) {
@@ -620,7 +709,7 @@ static __attribute__((noinline)) int deepest(void) {
     return DEEP - i;
 }
 
-static int most[STREAMS_PAD + 1];
+static int most[TAKE + 1];
 
 static void stack_of(const char *key) {
     struct set s;
@@ -677,7 +766,7 @@ int main(int n, char **word) {
     if (n == 2 && !strcmp(word[1], "stack")) {
         each_key(stack_of, false);
         each_key(stack_of, true);
-        for (int i = 0; i <= STREAMS_PAD; i++) printf("%s\t%d\n", calls[i].name, most[i]);
+        for (int i = 0; i <= TAKE; i++) printf("%s\t%d\n", calls[i].name, most[i]);
         printf("share of compaction\t%d\n", stack_of_compaction());
         return 0;
     }

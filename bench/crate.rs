@@ -111,3 +111,10 @@ pub unsafe extern "C" fn crate_multistream_packet_unpad(data: *mut u8, len: i32,
 pub unsafe extern "C" fn crate_repacketizer_out_range(rp: *mut OpusRepacketizer, begin: i32, end: i32, data: *mut u8, maxlen: i32) -> i32 {
     opus_repacketizer_out_range(rp, begin, end, data, maxlen)
 }
+
+// ---- exported likewise
+
+#[no_mangle]
+pub unsafe extern "C" fn crate_repacketizer_out_delimited(rp: *mut OpusRepacketizer, frames: i32, data: *mut u8, maxlen: i32, self_delimited: i32) -> i32 {
+    opus_repacketizer_out_range_impl(rp, 0, frames, data, maxlen, self_delimited, 0)
+}
