@@ -1,10 +1,9 @@
 -- A report in one number (word.rt).
 --     signed-fits, signed-low, signed-high    32 bits as a signed number, as the code reads them
---     refused-below                           a refusal's number is below 0, and -21 or more
 --     turned, turned-back                     it is turned to a natural number
 --     word-holds                              the fields that a word is put together of
 -- Assumes nothing.
-use mathlib.Core.Path.{_≡_, refl, sym, ap, _∙_}
+use mathlib.Core.Path.{_≡_, sym, ap, _∙_}
 use mathlib.Core.Bool.{true, false}
 use Prim.Native.Nat.{ℕ, suc, _+_, _*_, _-_, _/_, _%_, _<_, _≤_}
 use native.Mathlib.Omega.{arith}
@@ -15,10 +14,6 @@ use mir.Val.{SFits, toZ, ofZ}
 use mir.ValLaws.{toZ-pos, toZ-ofZ}
 use borrow.Author.Tests.{ltb-true, ltb-false, lt-ltb, le-ltb}
 use Rattle.laws.proofs.Never.{by-test}
-use Rattle.opus_defines.specs.declared.Refusal.{Refusal}
-use Rattle.opus_defines.specs.declared.Refusal.the-variants.{BadArg, BufferTooSmall, InvalidPacket, InvalidState}
-use Rattle.opus_defines.specs.declared.Refusal.the-variants.{Unreadable, CutShort, DirtyPadding, OverBudget}
-use Rattle.opus_defines.specs.Numbers.{refusalReport}
 use Rattle.aveluafi.specs.Words.{signed}
 
 -- ---- out of a word
@@ -53,17 +48,7 @@ module _ (n : ℕ) (h : n < 4294967296) (t : 2147483648 ≤ n) where
   signed-high = toZ-ofZ w32 (toZ w64 (ofZ w64 (toZ w64 n -ℤ pos 4294967296))) high-cast ∙ high-back
 
 -- ---- into a word
-pub refused-below : (e : Refusal) → (k : ℕ) × (k < 21) × (refusalReport e .number ≡ negsuc k)
-refused-below BadArg = (0, omega arith, refl)
-refused-below BufferTooSmall = (1, omega arith, refl)
-refused-below InvalidPacket = (3, omega arith, refl)
-refused-below InvalidState = (5, omega arith, refl)
-refused-below (Unreadable rule place) = (3, omega arith, refl)
-refused-below (CutShort rule) = (0, omega arith, refl)
-refused-below DirtyPadding = (19, omega arith, refl)
-refused-below OverBudget = (20, omega arith, refl)
-
-module _ (x : ℤ) (k : ℕ) (few : k < 21) (e : x ≡ negsuc k) where
+module _ (x : ℤ) (k : ℕ) (few : k < 24) (e : x ≡ negsuc k) where
   pub turned : pos 0 -ℤ toZ w32 (ofZ w32 x) ≡ pos (suc k)
   turned =
       let z : 0 + suc k ≡ suc k = omega arith in rw (e, toZ-ofZ w32 (negsuc k) (record { sfits = omega arith })) (ap pos z)
@@ -71,7 +56,7 @@ module _ (x : ℤ) (k : ℕ) (few : k < 21) (e : x ≡ negsuc k) where
   pub turned-back : toZ w32 (ofZ w32 (pos 0 -ℤ toZ w32 (ofZ w32 x))) ≡ pos (suc k)
   turned-back = rw turned (toZ-ofZ w32 (pos (suc k)) (record { sfits = omega arith }))
 
-module _ (k rule place : ℕ) (few : k < 21) (r : rule < 65536) (p : place < 65536) where
+module _ (k rule place : ℕ) (few : k < 24) (r : rule < 65536) (p : place < 65536) where
   abbrev word : ℕ
   word = 4294967296 - suc k + rule * 4294967296 + place * 281474976710656
 

@@ -18,14 +18,11 @@ use borrow.Author.Tests.{ltb-false, le-ltb}
 use Rattle.io.specs.Counts.{Counts}
 use Rattle.laws.specs.Bytes.{Bytes}
 use Rattle.laws.proofs.Never.{never, by-test}
-use Rattle.opus_defines.specs.Numbers.{ruleNumber, refusalReport, verdictReport}
+use Rattle.opus_defines.specs.Numbers.{refusalReport, verdictReport}
 use Rattle.opus_defines.specs.Rules.{ruleRefusal}
 use Rattle.opus_defines.specs.declared.Refusal.{Refusal}
-use Rattle.opus_defines.specs.declared.Refusal.the-variants.{BadArg, BufferTooSmall, InvalidPacket, InvalidState}
-use Rattle.opus_defines.specs.declared.Refusal.the-variants.{Unreadable, CutShort, DirtyPadding, OverBudget}
+use Rattle.opus_defines.specs.declared.Refusal.the-variants.{BadArg}
 use Rattle.opus_defines.specs.declared.Report.{Report}
-use Rattle.opus_defines.specs.declared.Rule.{Rule}
-use Rattle.opus_defines.specs.declared.Rule.the-variants.{R1, R2, R3, R4, R5, R6, R7, R8}
 use Rattle.opus_defines.specs.declared.Verdict.the-variants.{Accepted, Refused}
 use Rattle.opus_size.specs.Size.{mostBytes}
 use Rattle.opus_toc.specs.Toc.{upperSix}
@@ -41,7 +38,7 @@ use Rattle.opus_header.specs.Forms.{compactBytes}
 use Rattle.opus_header.proofs.Forms.{compact-front, sums-few}
 use Rattle.opus_header.proofs.Standing.{compact-needs}
 use Rattle.show.proofs.Laid.{front-counts}
-use Rattle.opus_defines.proofs.Others.{refusal-passed}
+use Rattle.opus_defines.proofs.Others.{refusal-few, report-rule, refusal-passed}
 use Rattle.listing_text.specs.Listing.{packetText, reportLine, refusedLine, listed, listing}
 use Rattle.listing_text.proofs.Room.{packet-most, report-most}
 
@@ -82,25 +79,10 @@ listing-read p r bytes e v =
     }
 
 -- ---- a packet that was refused
-rule-few : (rule : Rule) → ruleNumber rule < 100000
-rule-few R1 = omega arith
-rule-few R2 = omega arith
-rule-few R3 = omega arith
-rule-few R4 = omega arith
-rule-few R5 = omega arith
-rule-few R6 = omega arith
-rule-few R7 = omega arith
-rule-few R8 = omega arith
-
 line-most : (c : Refusal) → refusalReport c .place < 65536 → length (refusedLine c) ≤ 24
-line-most BadArg h = report-most 0 0 0 (omega arith) (omega arith) (omega arith)
-line-most BufferTooSmall h = report-most 1 0 0 (omega arith) (omega arith) (omega arith)
-line-most InvalidPacket h = report-most 3 0 0 (omega arith) (omega arith) (omega arith)
-line-most InvalidState h = report-most 5 0 0 (omega arith) (omega arith) (omega arith)
-line-most (Unreadable rule place) h = report-most 3 (ruleNumber rule) place (omega arith) (rule-few rule) (omega arith)
-line-most (CutShort rule) h = report-most 0 (ruleNumber rule) 0 (omega arith) (rule-few rule) (omega arith)
-line-most DirtyPadding h = report-most 19 0 0 (omega arith) (omega arith) (omega arith)
-line-most OverBudget h = report-most 20 0 0 (omega arith) (omega arith) (omega arith)
+line-most c h =
+    let k = refusal-few c in
+    rw (k .2) (report-most (k .0) (refusalReport c .rule) (refusalReport c .place) (omega (arith, k .1)) (omega (arith, report-rule c)) (omega (arith, h)))
 
 -- the reader refuses r, and x is what it says, as it is passed on
 module _ (p : List ℕ) (r : Packet) (e : r ≡ parsed false p) (c : Refusal) (v : r .verdict ≡ Refused c) where

@@ -1,7 +1,6 @@
 -- Streams that are read one behind another.
 --     pass-found, pass-refused                           one stream, by the reader's answer
 --     reach-within, reach-lent                           the bytes passed are there, and so is the place of what cannot be read
---     shifted-more                                       a place counted from further before
 --     Passing                                            what the loop keeps: the bytes so far with the streams from here on are all of them
 --     passing-start, passing-end                         its start and its end
 --     passing-stuck, passing-more                        a stream that cannot be read, and one that can
@@ -19,10 +18,9 @@ use borrow.Rule.Slice.PartAt.{part-to-end}
 use Rattle.laws.specs.Bytes.{Bytes}
 use Rattle.laws.proofs.Bytes.{bytes-drop}
 use Rattle.laws.proofs.Never.{never}
+use Rattle.opus_defines.proofs.Others.{shifted-none, shifted-more}
 use Rattle.opus_defines.specs.Rules.{ruleRefusal, shifted}
 use Rattle.opus_defines.specs.declared.Refusal.{Refusal}
-use Rattle.opus_defines.specs.declared.Refusal.the-variants.{BadArg, BufferTooSmall, InvalidPacket, InvalidState}
-use Rattle.opus_defines.specs.declared.Refusal.the-variants.{Unreadable, CutShort, DirtyPadding, OverBudget}
 use Rattle.opus_defines.specs.declared.Verdict.{Verdict}
 use Rattle.opus_defines.specs.declared.Verdict.the-variants.{Accepted}
 use Rattle.opus_defines.specs.declared.Verdict.the-variants as Verdicts
@@ -75,28 +73,6 @@ reach-lent sd s at bytes h e =
     rw e (rw (part-to-end s at) (omega (arith, reach-within sd (drop at s) (bytes-drop at s bytes), length-drop at s)))
 
 -- ---- several streams
-pub shifted-none : (e : Refusal) → shifted 0 e ≡ e
-unfolding ruleRefusal
-shifted-none BadArg = refl
-shifted-none BufferTooSmall = refl
-shifted-none InvalidPacket = refl
-shifted-none InvalidState = refl
-shifted-none (Unreadable rule place) = let e : 0 + place ≡ place = omega arith in rw e
-shifted-none (CutShort rule) = refl
-shifted-none DirtyPadding = refl
-shifted-none OverBudget = refl
-
-pub shifted-more : (n m : ℕ) (e : Refusal) → shifted n (shifted m e) ≡ shifted (n + m) e
-unfolding ruleRefusal
-shifted-more n m BadArg = refl
-shifted-more n m BufferTooSmall = refl
-shifted-more n m InvalidPacket = refl
-shifted-more n m InvalidState = refl
-shifted-more n m (Unreadable rule place) = let e : n + (m + place) ≡ n + m + place = omega arith in rw e
-shifted-more n m (CutShort rule) = refl
-shifted-more n m DirtyPadding = refl
-shifted-more n m OverBudget = refl
-
 further-none : (x : Passed) → further 0 x ≡ x
 further-none (Past at) = let e : 0 + at ≡ at = omega arith in rw e
 further-none (Stuck e) = ap Stuck (shifted-none e)

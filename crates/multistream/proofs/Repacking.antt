@@ -24,6 +24,7 @@ use Rattle.laws.specs.Bytes.{Bytes}
 use Rattle.laws.proofs.Bytes.{bytes-drop, bytes-take}
 use Rattle.laws.proofs.Never.{never, by-test}
 use Rattle.blocks.proofs.Sets.{sets-append, drop-sets-past, drop-take}
+use Rattle.opus_defines.proofs.Others.{shifted-none, shifted-more}
 use Rattle.opus_defines.specs.declared.Verdict.{Verdict}
 use Rattle.opus_defines.specs.declared.Verdict.the-variants.{Accepted, Refused}
 use Rattle.opus_toc.specs.Toc.{upperSix}
@@ -41,7 +42,7 @@ use Rattle.multistream.specs.declared.Places.{Places}
 use Rattle.multistream.specs.Unpad.{Repacked, unread, repacked, ahead, repackReading, repackStreams}
 use Rattle.multistream.specs.Parts.{stream, compactBy, compactOf, takenBy, isAccepted, nextPlaces, verdictOf, packedOf}
 use Rattle.multistream.proofs.Bounds.{by-within}
-use Rattle.multistream.proofs.Passing.{shifted-none, shifted-more, shiftedVerdict, ahead-verdict}
+use Rattle.multistream.proofs.Passing.{shiftedVerdict, ahead-verdict}
 use Rattle.blocks.proofs.LentParts.{sets-lent}
 
 -- ---- one stream

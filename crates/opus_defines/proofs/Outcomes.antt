@@ -9,12 +9,11 @@ use mathlib.Core.Path.{_≡_, refl}
 use mathlib.Core.List.{List}
 use lib.IntN.{pos, negsuc}
 use Rattle.laws.proofs.Never.{never}
+use Rattle.opus_defines.proofs.Others.{refusal-few}
 use Rattle.opus_defines.specs.Numbers.{refusalNumber}
 use Rattle.opus_defines.specs.Rules.{ruleRefusal}
 use Rattle.opus_defines.specs.Outcome.{Effect, refusal, wrote, Outcome, leaves}
 use Rattle.opus_defines.specs.declared.Refusal.{Refusal}
-use Rattle.opus_defines.specs.declared.Refusal.the-variants.{BadArg, BufferTooSmall, InvalidPacket, InvalidState}
-use Rattle.opus_defines.specs.declared.Refusal.the-variants.{Unreadable, CutShort, DirtyPadding, OverBudget}
 use Rattle.opus_defines.specs.declared.Rule.{Rule}
 use Rattle.opus_defines.specs.declared.Report.{Report}
 
@@ -30,14 +29,7 @@ unfolding ruleRefusal
 rule-number r place = refl
 
 pub refusal-negative : (e : Refusal) → (n : ℕ) × (refusalNumber e ≡ negsuc n)
-refusal-negative BadArg = (0, refl)
-refusal-negative BufferTooSmall = (1, refl)
-refusal-negative InvalidPacket = (3, refl)
-refusal-negative InvalidState = (5, refl)
-refusal-negative (Unreadable rule place) = (3, refl)
-refusal-negative (CutShort rule) = (0, refl)
-refusal-negative DirtyPadding = (19, refl)
-refusal-negative OverBudget = (20, refl)
+refusal-negative e = let k = refusal-few e in (k .0, k .2)
 
 pub refusal-not : (e : Refusal) {n : ℕ} → refusalNumber e ≡ pos n → ⊥
 refusal-not e h = let z = refusal-negative e .1 in never (cc)

@@ -6,6 +6,7 @@ use Rattle.opus_defines.specs.declared.Rule.the-variants.{R1, R2, R3, R4
 use Rattle.opus_defines.specs.declared.Refusal.{Refusal}
 use Rattle.opus_defines.specs.declared.Refusal.the-variants.{BadArg, BufferTooSmall, InvalidPacket, InvalidState}
 use Rattle.opus_defines.specs.declared.Refusal.the-variants.{Unreadable, CutShort, DirtyPadding, OverBudget}
+use Rattle.opus_defines.specs.declared.Refusal.the-variants.{BadHeader, UnknownVersion, BadField}
 use Rattle.opus_defines.specs.declared.Report.{Report}
 use Rattle.opus_defines.specs.declared.Answer.{Answer}
 use Rattle.opus_defines.specs.declared.Answer.the-variants.{Number, Refused}
@@ -29,7 +30,8 @@ ruleNumber R8 = 8
 abbrev pub plain : ℤ → Report
 plain n = record { number = n; rule = 0; place = 0 }
 
--- the one place where a refusal becomes its number, -1, -2, -4, -6, -20 (document 02, M-105) or -21 (M-103), with the rule and the place
+-- the one place where a refusal becomes its number, -1, -2, -4, -6, -20 (document 02, M-105), -21 (M-103) or -22 to -24 (M-111), with the
+-- rule and the place
 abbrev pub refusalReport : Refusal → Report
 refusalReport BadArg = plain (negsuc 0)
 refusalReport BufferTooSmall = plain (negsuc 1)
@@ -39,6 +41,9 @@ refusalReport (Unreadable rule place) = record { number = negsuc 3; rule = ruleN
 refusalReport (CutShort rule) = record { number = negsuc 0; rule = ruleNumber rule; place = 0 }
 refusalReport DirtyPadding = plain (negsuc 19)
 refusalReport OverBudget = plain (negsuc 20)
+refusalReport BadHeader = plain (negsuc 21)
+refusalReport UnknownVersion = plain (negsuc 22)
+refusalReport BadField = plain (negsuc 23)
 
 abbrev pub refusalNumber : Refusal → ℤ
 refusalNumber e = refusalReport e .number

@@ -24,6 +24,12 @@ pub enum Refusal {
     DirtyPadding,
     // The next record alone takes more bytes than the budget has (document 02, M-103).
     OverBudget,
+    // No identification header: too short, other letters, or not as long as its fields need (document 02, M-111).
+    BadHeader,
+    // A header of a version that is not known (M-111).
+    UnknownVersion,
+    // A field of a header against the rules of RFC 7845 (M-111).
+    BadField,
 }
 
 // What a call answers to C that reads a packet: a count or the refusal's number, and with an unreadable packet the rule, 1 to 8, and the place.
@@ -68,6 +74,9 @@ pub fn shift(e: Refusal, by: usize) -> Refusal
         Refusal::CutShort(rule) => Refusal::CutShort(rule),
         Refusal::DirtyPadding => Refusal::DirtyPadding,
         Refusal::OverBudget => Refusal::OverBudget,
+        Refusal::BadHeader => Refusal::BadHeader,
+        Refusal::UnknownVersion => Refusal::UnknownVersion,
+        Refusal::BadField => Refusal::BadField,
     }
 }
 
@@ -112,6 +121,9 @@ fn plain_number(e: Refusal) -> i32
         Refusal::CutShort(_) => -1,
         Refusal::DirtyPadding => -20,
         Refusal::OverBudget => -21,
+        Refusal::BadHeader => -22,
+        Refusal::UnknownVersion => -23,
+        Refusal::BadField => -24,
     }
 }
 

@@ -17,10 +17,10 @@ use Rattle.laws.specs.Bytes.{Bytes}
 use Rattle.laws.proofs.Never.{by-test}
 use Rattle.blocks.proofs.Sets.{drop-take}
 use Rattle.opus_defines.specs.Rules.{ruleRefusal}
+use Rattle.opus_defines.proofs.Others.{other-or}
 use Rattle.opus_defines.specs.declared.Rule.{Rule}
 use Rattle.opus_defines.specs.declared.Refusal.{Refusal}
-use Rattle.opus_defines.specs.declared.Refusal.the-variants.{BadArg, BufferTooSmall, InvalidPacket, InvalidState, CutShort, DirtyPadding, OverBudget}
-use Rattle.opus_defines.specs.declared.Refusal.the-variants.{Unreadable as Breaks}
+use Rattle.opus_defines.specs.declared.Refusal.the-variants.{BadArg, Unreadable as Breaks}
 use Rattle.opus_defines.specs.declared.Verdict.the-variants.{Accepted, Refused as Refuses}
 use Rattle.opus_size.specs.Size.{mostBytes}
 use Rattle.opus_toc.specs.Toc.{upperSix}
@@ -46,14 +46,7 @@ use Rattle.packet_judge.proofs.Verdicts.{least-long, least-short, least
 
 -- ---- refused
 pub other-unread : (e : Refusal) → ((rule : Rule) (place : ℕ) → e ≡ Breaks rule place → ⊥) → Refused e ≡ unread e
-other-unread BadArg u = refl
-other-unread BufferTooSmall u = refl
-other-unread InvalidPacket u = refl
-other-unread InvalidState u = refl
-other-unread (Breaks rule place) u = absurd (u rule place refl)
-other-unread (CutShort rule) u = refl
-other-unread DirtyPadding u = refl
-other-unread OverBudget u = refl
+other-unread e u = sym (other-or Unreadable (Refused e) e u)
 
 rule-unread : (rule : Rule) (place : ℕ) → unread (ruleRefusal rule place) ≡ Unreadable rule place
 unfolding ruleRefusal

@@ -5,9 +5,9 @@ use mathlib.Core.Bool.{Bool, cond}
 use lib.Dec.{ltb}
 use lib.ListN.{length, drop}
 use Rattle.opus_defines.specs.Bounds.{mostPacket}
+use Rattle.opus_defines.specs.Rules.{unreadableOr}
 use Rattle.opus_defines.specs.declared.Refusal.{Refusal}
-use Rattle.opus_defines.specs.declared.Refusal.the-variants.{BadArg, BufferTooSmall, InvalidPacket, InvalidState, CutShort, DirtyPadding, OverBudget}
-use Rattle.opus_defines.specs.declared.Refusal.the-variants.{Unreadable as Breaks}
+use Rattle.opus_defines.specs.declared.Refusal.the-variants.{BadArg}
 use Rattle.opus_toc.specs.Toc.{upperSix}
 use Rattle.opus_format.specs.Frames.{cut}
 use Rattle.opus_format.specs.Reading.{Reading, refused, accepted, read}
@@ -44,11 +44,4 @@ leastLength sd p = cond (ltb mostPacket (length p)) (length p) (leastRead sd p (
 
 -- the verdict on a packet that the reader refuses, by its refusal; the contract of a function that is not public cites this
 abbrev pub unread : Refusal → Judged
-unread BadArg = Refused BadArg
-unread BufferTooSmall = Refused BufferTooSmall
-unread InvalidPacket = Refused InvalidPacket
-unread InvalidState = Refused InvalidState
-unread (Breaks rule place) = Unreadable rule place
-unread (CutShort rule) = Refused (CutShort rule)
-unread DirtyPadding = Refused DirtyPadding
-unread OverBudget = Refused OverBudget
+unread e = unreadableOr Unreadable (Refused e) e

@@ -1,6 +1,6 @@
 -- The line for a refusal: its parts and its length.
 -- Assumes nothing.
-use Prim.Native.Nat.{ℕ, _≤_, _<_}
+use Prim.Native.Nat.{ℕ, suc, _≤_, _<_}
 use native.Mathlib.Omega.{arith}
 use mathlib.Core.List.{List, [], _∷_, _++_}
 use lib.IntN.{ℤ}
@@ -10,8 +10,7 @@ use mir.Val.{toZ, ofZ, SFits}
 use mir.ValLaws.{toZ-ofZ}
 use Rattle.opus_defines.specs.Numbers.{refusalNumber}
 use Rattle.opus_defines.specs.declared.Refusal.{Refusal}
-use Rattle.opus_defines.specs.declared.Refusal.the-variants.{BadArg, BufferTooSmall, InvalidPacket, InvalidState}
-use Rattle.opus_defines.specs.declared.Refusal.the-variants.{Unreadable, CutShort, DirtyPadding, OverBudget}
+use Rattle.opus_defines.proofs.Others.{refusal-few}
 use Rattle.show.specs.Text.{decimal, integer, refusedLabel, refusal}
 use Rattle.show.proofs.Laid.{Three, front-room}
 use Rattle.show.proofs.Digits.{decimal-most}
@@ -29,11 +28,4 @@ negative-most n h = simp length-append (omega (arith, decimal-most n 1 h))
 
 pub refusal-most : (e : Refusal) → length (refusal (refusalNumber e)) ≤ 12
 unfolding refusal integer
-refusal-most BadArg = negative-most 1 (omega arith)
-refusal-most BufferTooSmall = negative-most 2 (omega arith)
-refusal-most InvalidPacket = negative-most 4 (omega arith)
-refusal-most InvalidState = negative-most 6 (omega arith)
-refusal-most (Unreadable rule place) = negative-most 4 (omega arith)
-refusal-most (CutShort rule) = negative-most 1 (omega arith)
-refusal-most DirtyPadding = negative-most 20 (omega arith)
-refusal-most OverBudget = negative-most 21 (omega arith)
+refusal-most e = let k = refusal-few e in rw (k .2) (negative-most (suc (k .0)) (omega (arith, k .1)))

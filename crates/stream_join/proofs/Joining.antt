@@ -23,7 +23,7 @@ use Rattle.opus_defines.specs.declared.Refusal.the-variants.{BadArg, BufferTooS
 use Rattle.opus_format.specs.Frames.{cut, total}
 use Rattle.opus_format.specs.Reading.{Reading, refused, accepted, read}
 use Rattle.multistream.specs.Reading.{Stream, compactStreams}
-use Rattle.multistream.proofs.Passing.{shifted-none}
+use Rattle.opus_defines.proofs.Others.{shifted-none}
 use Rattle.stream_join.specs.Join.{Held, stuck, holds, thenPackets, heldBy, lasting, allLast, equallyLong, byHeld, joinedStreams}
 use Rattle.stream_join.specs.Join.{join, packetsJoined}
 use Rattle.stream_join.specs.Parts.{packed, andOne, tallied, nothing, surveyed, packedFrom, isHeld, heldStreams}

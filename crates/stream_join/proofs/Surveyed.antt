@@ -29,7 +29,7 @@ use Rattle.opus_format.specs.Reading.{Reading, refused, accepted, read}
 use Rattle.opus_format.proofs.Within.{refused-within}
 use Rattle.multistream.specs.Reading.{Stream}
 use Rattle.multistream.proofs.Bounds.{taken-within}
-use Rattle.multistream.proofs.Passing.{shifted-more}
+use Rattle.opus_defines.proofs.Others.{shifted-more}
 use Rattle.stream_join.specs.Join.{Held, stuck, holds, ahead, thenPackets, heldBy, lasting}
 use Rattle.stream_join.specs.Parts.{streamAt, packed, lookBy, andOne, ended, surveyedFrom, nothing, surveyed}
 use Rattle.stream_join.specs.Parts.{isSome, thenHeld, heldStreamsIn}

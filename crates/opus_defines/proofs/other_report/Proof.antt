@@ -11,7 +11,7 @@ returns : tie.Need-returns
 returns c =
     let e = c .before .before .args .e in
     λ u. rw (c .before .plain-number .ensures, refusal-passed e)
-    (other-plain e u (λ rule q. not-among (0 ∷ 1 ∷ 2 ∷ 3 ∷ 4 ∷ 6 ∷ 7 ∷ []) 5 refl (rw q at (c .match .keys2))))
+    (other-plain e u (λ rule q. not-among (0 ∷ 1 ∷ 2 ∷ 3 ∷ 4 ∷ 6 ∷ 7 ∷ 8 ∷ 9 ∷ 10 ∷ []) 5 refl (rw q at (c .match .keys2))))
 
 returns-2 : tie.Need-returns-2
 returns-2 c =

@@ -8,13 +8,14 @@ use borrow.Author.Needs.{needs}
 use Rattle.opus_defines.specs.declared.Report.{Report}
 use Rattle.opus_defines.specs.declared.Refusal.{Refusal}
 use Rattle.opus_defines.specs.Numbers.{refusalReport}
-use Rattle.aveluafi.proofs.Words.{refused-below, turned, turned-back, number-held, rule-held, place-held}
+use Rattle.opus_defines.proofs.Others.{refusal-few}
+use Rattle.aveluafi.proofs.Words.{turned, turned-back, number-held, rule-held, place-held}
 use Rattle.aveluafi.proofs.word.refusal_word.Statement.{statement}
 use Rattle.aveluafi.proofs.word.refusal_word.Tie as tie
 
 -- how far a report's number is below -1
-below : (e : Refusal) (r : Report) → r ≡ refusalReport e → (k : ℕ) × (k < 21) × (r .number ≡ negsuc k)
-below e r q = let b = refused-below e in (b .0, b .1, ap (λ (s : Report). s .number) q ∙ b .2)
+below : (e : Refusal) (r : Report) → r ≡ refusalReport e → (k : ℕ) × (k < 24) × (r .number ≡ negsuc k)
+below e r q = let b = refusal-few e in (b .0, b .1, ap (λ (s : Report). s .number) q ∙ b .2)
 
 sub-below : tie.Need-sub-below
 sub-below c =
