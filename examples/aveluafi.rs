@@ -13,6 +13,7 @@ pub const VERSION: i32 = 3;
 pub const MOST_FRAMES: usize = 48;
 pub const LEAST_STORE: usize = 61200;
 pub const MOST_ORDERS: usize = 48;
+pub const MOST_HEAD: usize = 276;
 
 /// Why a call was refused.
 #[derive(Clone, Copy, Debug, PartialEq, Eq)]
@@ -41,6 +42,12 @@ pub enum Refusal {
     },
     /// Streams to be joined, or those of a packet, do not last equally long.
     UnequalTimes,
+    /// Bytes that are no identification header: under 19 of them, other letters in front, or another length than the fields need.
+    BadHeader,
+    /// A header of a version above 15.
+    UnknownVersion,
+    /// A field of a header against the rules of RFC 7845; to be written, also a version other than 1.
+    BadField,
     /// A number that this file does not know: the archive that was linked is of another version.
     Unknown(i32),
 }
@@ -55,6 +62,9 @@ impl Refusal {
             Refusal::InvalidState => -6,
             Refusal::DirtyPadding => -20,
             Refusal::OverBudget => -21,
+            Refusal::BadHeader => -22,
+            Refusal::UnknownVersion => -23,
+            Refusal::BadField => -24,
             Refusal::Unknown(number) => number,
         }
     }
@@ -73,6 +83,9 @@ impl fmt::Display for Refusal {
             Refusal::BadOrder { position } => write!(f, "order {position}: no range of the frames held"),
             Refusal::OrderTooLong { position } => write!(f, "order {position}: destination too small"),
             Refusal::UnequalTimes => write!(f, "invalid packet: the streams do not last equally long"),
+            Refusal::BadHeader => write!(f, "no identification header"),
+            Refusal::UnknownVersion => write!(f, "header of an unknown version"),
+            Refusal::BadField => write!(f, "header field against the rules of RFC 7845"),
             Refusal::Unknown(number) => write!(f, "refused by {number}, a number of another version"),
         }
     }
@@ -89,6 +102,9 @@ fn answer(number: i32) -> Result<usize, Refusal> {
         -6 => Err(Refusal::InvalidState),
         -20 => Err(Refusal::DirtyPadding),
         -21 => Err(Refusal::OverBudget),
+        -22 => Err(Refusal::BadHeader),
+        -23 => Err(Refusal::UnknownVersion),
+        -24 => Err(Refusal::BadField),
         _ => Err(Refusal::Unknown(number)),
     }
 }
@@ -175,6 +191,31 @@ struct RawShare {
     passed: usize,
 }
 
+/// The fields of an identification header of an Ogg Opus stream.
+#[repr(C)]
+#[derive(Clone, Copy, Debug, PartialEq, Eq)]
+pub struct Head {
+    pub version: u8,
+    pub channels: u8,
+    /// Samples at 48 kHz, to be left out at the start.
+    pub pre_skip: u16,
+    /// That of the recording, in Hz; for information.
+    pub rate: u32,
+    /// In 1/256 dB.
+    pub gain: i16,
+    pub family: u8,
+    pub streams: u8,
+    pub coupled: u8,
+    /// An entry for each channel, then zeros.
+    pub mapping: [u8; 255],
+}
+
+#[repr(C)]
+struct RawHead {
+    number: i32,
+    head: Head,
+}
+
 #[repr(C)]
 struct RawVerdict {
     number: i32,
@@ -246,6 +287,8 @@ extern "C" {
     fn aveluafi_multistream_take(data: *const u8, data_len: usize, nb_streams: i32, k: i32, dst: *mut u8, dst_len: usize) -> Report;
     fn aveluafi_next_record(data: *const u8, data_len: usize, start: usize) -> RawRecord;
     fn aveluafi_compact(data: *const u8, data_len: usize, start: usize, dst: *mut u8, dst_len: usize, budget: usize) -> RawShare;
+    fn aveluafi_head_read(data: *const u8, data_len: usize) -> RawHead;
+    fn aveluafi_head_write(head: *const Head, dst: *mut u8, dst_len: usize) -> i32;
 }
 
 /// The version of the archive that is linked. Where it is not `VERSION`, nothing that it answers can be relied on.
@@ -465,4 +508,15 @@ impl Iterator for Shares<'_> {
     fn next(&mut self) -> Option<Self::Item> {
         self.next_share().map(|night| night.map(|(share, bytes)| (share, bytes.to_vec())))
     }
+}
+
+/// Reads the identification header that `data` is. One of version 1 takes all of it; another may have more bytes behind its fields.
+pub fn read_head(data: &[u8]) -> Result<Head, Refusal> {
+    let r = unsafe { aveluafi_head_read(data.as_ptr(), data.len()) };
+    answer(r.number).map(|_| r.head)
+}
+
+/// Writes a header of these fields, of version 1, at the front of `dst`, and answers its bytes.
+pub fn write_head(head: &Head, dst: &mut [u8]) -> Result<usize, Refusal> {
+    answer(unsafe { aveluafi_head_write(head, dst.as_mut_ptr(), dst.len()) })
 }

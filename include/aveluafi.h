@@ -1,4 +1,5 @@
-/* Aveluafi: Opus packets packed into longer ones, cut again, padded and stripped of padding; and found in capture files, which can be compacted.
+/* Aveluafi: Opus packets packed into longer ones, cut again, padded and stripped of padding; found in capture files, which can be compacted; and the
+ * identification headers of Ogg Opus streams, read and written.
  *
  * The C interface of the proved archive libaveluafi.a (`./aveluafi build archive`, x86-64 Linux). Names follow unopus 0.0.1 and libopus, under a
  * prefix of their own, so that a program can link libopus too.
@@ -9,8 +10,9 @@
  *
  * What a caller must see to, since C cannot say it:
  *   - a pointer and a count name that many bytes, or cut orders, that can be read, and for a pointer without `const` written; a count of 0 may go with
- *     any pointer, NULL too, as an empty std::vector has it: no byte is touched; a collector pointer is never NULL;
- *   - the memory of two arguments of one call does not overlap (data, store, collector and orders are four different places, data and dst two);
+ *     any pointer, NULL too, as an empty std::vector has it: no byte is touched; the pointer to a collector or to a header's fields is never NULL;
+ *   - the memory of two arguments of one call does not overlap (data, store, collector and orders are four different places, data and dst two, head
+ *     and dst too);
  *   - no other thread writes to that memory during the call; so a file that is still being written is read into memory first, and a file that is
  *     mapped must not be changed or cut meanwhile;
  *   - a `bool` is 0 or 1, as C's own is;
@@ -54,6 +56,9 @@ int32_t aveluafi_version(void);
 #define AVELUAFI_INVALID_STATE (-6)   /* the collector was not made by these calls, or was written over */
 #define AVELUAFI_DIRTY_PADDING (-20)  /* a strict add: a padding byte is not zero */
 #define AVELUAFI_OVER_BUDGET (-21)    /* a share of compaction: the next record alone, rewritten, is longer than the budget */
+#define AVELUAFI_BAD_HEADER (-22)     /* no identification header: under 19 bytes, other letters in front, or another length than its fields need */
+#define AVELUAFI_UNKNOWN_VERSION (-23) /* an identification header of a version above 15 */
+#define AVELUAFI_BAD_FIELD (-24)      /* a field of an identification header against the rules of RFC 7845; to be written: a version other than 1 */
 
 /* ---- rule and place: which rule of RFC 6716, section 3.4, a packet breaks, and where
  *
@@ -321,6 +326,47 @@ struct aveluafi_share {
  * Order of refusals: -1 where start is past data_len, -2 where dst_len is below budget, -21 exactly if the next record alone, rewritten, is longer than
  * budget. After -21 call again from the same start with more, AVELUAFI_MOST_RECORD at most; nothing was written, and the same budget is refused again. */
 struct aveluafi_share aveluafi_compact(const uint8_t *data, size_t data_len, size_t start, uint8_t *dst, size_t dst_len, size_t budget);
+
+/* ---- identification headers of Ogg Opus streams (RFC 7845, 5.1)
+ *
+ * The rules on the fields: channels at least 1, at most 2 in family 0 and 8 in family 1; streams at least 1, coupled at most streams, and their sum at most
+ * 255; each channel's entry of the mapping 255, which is a silent channel, or below that sum. The bytes of family 0 carry no streams, coupled and mapping: it
+ * means one stream, coupled if there are 2 channels, and the entries 0 and 1, or 0 alone. */
+
+#define AVELUAFI_MOST_HEAD 276        /* bytes of the longest header of version 1: 255 channels */
+
+/* The fields of a header. */
+struct aveluafi_head {
+    uint8_t version;
+    uint8_t channels;
+    uint16_t pre_skip;                /* samples at 48 kHz, to be left out at the start */
+    uint32_t rate;                    /* that of the recording, in Hz; for information */
+    int16_t gain;                     /* in 1/256 dB */
+    uint8_t family;
+    uint8_t streams;
+    uint8_t coupled;
+    uint8_t mapping[255];             /* an entry for each channel; 0 past the last */
+};
+
+/* What the reader answers. */
+struct aveluafi_head_record {
+    int32_t number;                   /* 0, or the refusal; beside a refusal every field of the header is 0 */
+    struct aveluafi_head head;
+};
+
+/* Reads the header that data is. A version 1 header takes all of data; those of versions 0 and 2 to 15 may have more bytes behind their fields, which are not
+ * looked at.
+ *
+ * Order of refusals: -22 under 19 bytes, or where the letters OpusHead are not in front; -23 for a version above 15; -22 for another length than the fields
+ * need, which is 19 bytes in family 0 and 21 and one for each channel in the others; -24 for a field against the rules. */
+struct aveluafi_head_record aveluafi_head_read(const uint8_t *data, size_t data_len);
+
+/* Writes a header of these fields at the front of dst, and answers its bytes: 19 to AVELUAFI_MOST_HEAD. Read, they give the same fields; and a header of
+ * version 1 that was read and is written gives the bytes that were read. Bytes past the header stay.
+ *
+ * Order of refusals: -24 for a version other than 1, a field against the rules, an entry past the last channel's that is not 0, and in family 0 for streams,
+ * coupled or mapping other than it means; -2 where dst_len is too short. */
+int32_t aveluafi_head_write(const struct aveluafi_head *head, uint8_t *dst, size_t dst_len);
 
 #ifdef __cplusplus
 }

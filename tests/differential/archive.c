@@ -362,6 +362,88 @@ static void take(Streams *s) {
     }
 }
 
+// ---- identification headers
+
+static bool same_head(const struct aveluafi_head *a, const struct aveluafi_head *b) {
+    return a->version == b->version && a->channels == b->channels && a->pre_skip == b->pre_skip && a->rate == b->rate && a->gain == b->gain
+        && a->family == b->family && a->streams == b->streams && a->coupled == b->coupled && memcmp(a->mapping, b->mapping, sizeof a->mapping) == 0;
+}
+
+// Lends a destination that goes on behind its room, which must stay, and so must the fields.
+static int32_t put_head(const struct aveluafi_head *head, Bytes out) {
+    enum { BEHIND = 9 };
+    struct aveluafi_head before = *head;
+    Bytes lent = block(out.len + BEHIND, 0xdd);
+    memcpy(lent.at, out.at, out.len);
+    int32_t n = aveluafi_head_write(head, lent.at, out.len);
+    require(same_head(head, &before), "aveluafi_head_write: the fields have changed");
+    for (int i = 0; i < BEHIND; i++) {
+        require(lent.at[out.len + i] == 0xdd, "aveluafi_head_write has written behind the destination");
+    }
+    memcpy(out.at, lent.at, out.len);
+    free(lent.at);
+    return n;
+}
+
+// The fields that were read, written into as many bytes as were read: those bytes, of version 1; -2 into one less. Another version is not written.
+static void written_again(const struct aveluafi_head *head, Bytes data) {
+    Bytes again = block(data.len, 0xee);
+    if (head->version != 1) {
+        require(put_head(head, again) == AVELUAFI_BAD_FIELD, "aveluafi_head_write: a version other than 1 is not -24");
+    } else {
+        again.len--;
+        require(put_head(head, again) == AVELUAFI_BUFFER_TOO_SMALL, "aveluafi_head_write: a room too short by one is not -2");
+        again.len++;
+        for (int32_t i = 0; i < data.len; i++) {
+            require(again.at[i] == 0xee, "aveluafi_head_write: a refusal has written");
+        }
+        require(put_head(head, again) == data.len && memcmp(again.at, data.at, data.len) == 0, "aveluafi_head_write is not what was read");
+    }
+    free(again.at);
+}
+
+static int read_head(Header *h) {
+    Bytes data = copy(h->data.at, h->data.len);
+    struct aveluafi_head_record r = aveluafi_head_read(data.at, data.len);
+    require(memcmp(data.at, h->data.at, data.len) == 0, "aveluafi_head_read: the header has changed");
+    require(r.number <= 0, "aveluafi_head_read: a number above 0");
+    if (r.number < 0) {
+        struct aveluafi_head zeros = {0};
+        require(same_head(&r.head, &zeros), "aveluafi_head_read: a refusal beside which a field is not 0");
+    } else {
+        for (int i = r.head.channels; i < 255; i++) {
+            require(r.head.mapping[i] == 0, "aveluafi_head_read: an entry past the channels is not 0");
+        }
+        written_again(&r.head, h->data);
+    }
+    free(data.at);
+    h->number = r.number;
+    h->version = r.head.version;
+    h->channels = r.head.channels;
+    h->pre_skip = r.head.pre_skip;
+    h->rate = r.head.rate;
+    h->gain = r.head.gain;
+    h->family = r.head.family;
+    h->streams = r.head.streams;
+    h->coupled = r.head.coupled;
+    memcpy(h->mapping, r.head.mapping, sizeof h->mapping);
+    return 1;
+}
+
+// What was written is read again to the same fields.
+static int write_head(Header *h) {
+    struct aveluafi_head head = {.version = h->version, .channels = h->channels, .pre_skip = h->pre_skip, .rate = h->rate, .gain = h->gain,
+                                 .family = h->family, .streams = h->streams, .coupled = h->coupled};
+    memcpy(head.mapping, h->mapping, sizeof head.mapping);
+    h->number = put_head(&head, h->out);
+    require(h->number <= AVELUAFI_MOST_HEAD, "aveluafi_head_write: over 276 bytes");
+    if (h->number >= 0) {
+        struct aveluafi_head_record r = aveluafi_head_read(h->out.at, h->number);
+        require(r.number == AVELUAFI_OK && same_head(&r.head, &head), "aveluafi_head_read is not what was written");
+    }
+    return 1;
+}
+
 static void start(int argc, char **argv) {
     (void)argc;
     (void)argv;

@@ -5,7 +5,8 @@
 #include <stdlib.h>
 #include <string.h>
 
-enum { READ_PACKET = 1, COLLECT, PAD, UNPAD, MULTISTREAM_PAD, MULTISTREAM_UNPAD, WRITE_LENGTH, READ_LENGTH, FRAME_COUNT, SAMPLES, MANY_CUTS = 21, JOIN, TAKE };
+enum { READ_PACKET = 1, COLLECT, PAD, UNPAD, MULTISTREAM_PAD, MULTISTREAM_UNPAD, WRITE_LENGTH, READ_LENGTH, FRAME_COUNT, SAMPLES };
+enum { MANY_CUTS = 21, JOIN, TAKE, READ_HEAD = 27, WRITE_HEAD };
 
 typedef struct {
     unsigned char *at;
@@ -48,6 +49,16 @@ typedef struct {
     int number, rule, place;
 } Streams;
 
+// The case of a header to be read, or of fields to be written, and what the adapter fills in. Of the case nothing is to be written over.
+typedef struct {
+    Bytes data, out;
+    unsigned char version, channels, family, streams, coupled, mapping[255];
+    uint16_t pre_skip;
+    uint32_t rate;
+    int16_t gain;
+    int number;
+} Header;
+
 // Called once, before the first case.
 static void start(int argc, char **argv);
 // Fills in the packet unless it is refused; the number is how many lengths.
@@ -65,6 +76,9 @@ static int cut(Cuts *c);
 // Fill in the destination, and number, rule and place.
 static void join(Streams *s);
 static void take(Streams *s);
+// Fill in the fields, zeros beside a refusal, or the destination, and the number. 0 where there is no such call.
+static int read_head(Header *h);
+static int write_head(Header *h);
 
 // The number of the case being answered, from 1.
 static long case_number;
@@ -179,6 +193,24 @@ static int get_take(Streams *s) {
     return get_bytes(&s->data);
 }
 
+static int get_fields(Header *h) {
+    unsigned char n;
+    uint16_t gain;
+    int32_t rate, room;
+    if (!get(&h->version, 1) || !get(&h->channels, 1) || !get_u16(&h->pre_skip) || !get_i32(&rate) || !get_u16(&gain) || !get(&h->family, 1)
+        || !get(&h->streams, 1) || !get(&h->coupled, 1) || !get(&n, 1)) {
+        return 0;
+    }
+    h->rate = (uint32_t)rate;
+    h->gain = (int16_t)gain;
+    memset(h->mapping, 0, sizeof h->mapping);
+    if (!get(h->mapping, n) || !get_room(&room)) {
+        return 0;
+    }
+    h->out = block(room, 0xee);
+    return 1;
+}
+
 // ---- output
 
 static void put_hex(Bytes b) {
@@ -250,6 +282,16 @@ static int line_cuts(Cuts *c) {
     }
     printf(" ; ");
     put_hex(c->out);
+    return 1;
+}
+
+static int line_read_head(Header *h) {
+    if (!read_head(h)) {
+        return 0;
+    }
+    Bytes mapping = {h->mapping, sizeof h->mapping};
+    printf("%d %d %d %d %lu %d %d %d ", h->number, h->version, h->channels, h->pre_skip, (unsigned long)h->rate, h->gain, h->family, h->streams);
+    put_number_and(h->coupled, mapping);
     return 1;
 }
 
@@ -353,6 +395,23 @@ static int answer(int kind) {
         put_number_and(s.place, s.out);
         free(s.data.at);
         free(s.out.at);
+        return 1;
+    }
+    case READ_HEAD: {
+        static Header h;
+        if (!get_bytes(&h.data) || !line_read_head(&h)) {
+            return 0;
+        }
+        free(h.data.at);
+        return 1;
+    }
+    case WRITE_HEAD: {
+        static Header h;
+        if (!get_fields(&h) || !write_head(&h)) {
+            return 0;
+        }
+        put_number_and(h.number, h.out);
+        free(h.out.at);
         return 1;
     }
     default:

@@ -448,6 +448,191 @@ static void compacting(void) {
     is("compact all behind it bytes", holds(longest, 65562), 1);
 }
 
+/* ---- identification headers */
+
+/* The header of version 1 with these channels, pre-skip 312, 48,000 Hz, gain -256 and this family; the streams and the mapping are put behind it. */
+static uint8_t header[AVELUAFI_MOST_HEAD + 1], written[AVELUAFI_MOST_HEAD + 9];
+
+static void header_of(uint8_t version, uint8_t channels, uint8_t family) {
+    static const uint8_t front[19] = {'O', 'p', 'u', 's', 'H', 'e', 'a', 'd', 1, 2, 0x38, 0x01, 0x80, 0xBB, 0, 0, 0, 0xFF, 0};
+    for (size_t i = 0; i < sizeof header; i++)
+        header[i] = i < sizeof front ? front[i] : 0;
+    header[8] = version, header[9] = channels, header[18] = family;
+}
+
+/* Of a family that has them, with each channel at its own place. */
+static void streams_of(uint8_t streams, uint8_t coupled) {
+    header[19] = streams, header[20] = coupled;
+    for (size_t i = 0; i < header[9]; i++)
+        header[21 + i] = (uint8_t)i;
+}
+
+static int same_head(const struct aveluafi_head *a, const struct aveluafi_head *b) {
+    for (size_t i = 0; i < sizeof a->mapping; i++)
+        if (a->mapping[i] != b->mapping[i])
+            return 0;
+    return a->version == b->version && a->channels == b->channels && a->pre_skip == b->pre_skip && a->rate == b->rate && a->gain == b->gain
+           && a->family == b->family && a->streams == b->streams && a->coupled == b->coupled;
+}
+
+/* The first n bytes of the header are refused, beside zeros. */
+static void refuses_head(const char *what, size_t n, long number) {
+    static const struct aveluafi_head none;
+    struct aveluafi_head_record r = aveluafi_head_read(header, n);
+    field(what, ".number", r.number, number);
+    field(what, " is zeros", same_head(&r.head, &none), 1);
+}
+
+/* They are read, with version, channels, family, streams and coupled streams that are told, and the other fields of `header_of`. The mapping: the bytes of the
+ * channels at `entries`, then zeros. */
+static struct aveluafi_head reads_head(const char *what, size_t n, uint8_t streams, uint8_t coupled, const uint8_t *entries) {
+    struct aveluafi_head_record r = aveluafi_head_read(header, n);
+    field(what, ".number", r.number, AVELUAFI_OK);
+    field(what, ".version", r.head.version, header[8]);
+    field(what, ".channels", r.head.channels, header[9]);
+    field(what, ".pre_skip", r.head.pre_skip, 312);
+    field(what, ".rate", r.head.rate, 48000);
+    field(what, ".gain", r.head.gain, -256);
+    field(what, ".family", r.head.family, header[18]);
+    field(what, ".streams", r.head.streams, streams);
+    field(what, ".coupled", r.head.coupled, coupled);
+    long wrong = 0;
+    for (size_t i = 0; i < sizeof r.head.mapping; i++)
+        wrong += r.head.mapping[i] != (i < header[9] ? entries[i] : 0);
+    field(what, ".mapping", wrong, 0);
+    return r.head;
+}
+
+/* Fields written into so much room: the first bytes of the header, or a refusal; every other byte of the destination stays, and so do the fields. */
+static void writes_head(const char *what, const struct aveluafi_head *head, size_t room, long number) {
+    struct aveluafi_head before = *head;
+    for (size_t i = 0; i < sizeof written; i++)
+        written[i] = UNSET;
+    field(what, ".number", aveluafi_head_write(head, written, room), number);
+    long wrong = 0;
+    for (size_t i = 0; i < sizeof written; i++)
+        wrong += written[i] != ((long)i < number ? header[i] : UNSET);
+    field(what, " bytes", wrong, 0);
+    field(what, " leaves the fields", same_head(head, &before), 1);
+}
+
+static void heading(void) {
+    is("head size", sizeof(struct aveluafi_head), 268);
+    is("head.version at", offsetof(struct aveluafi_head, version), 0);
+    is("head.channels at", offsetof(struct aveluafi_head, channels), 1);
+    is("head.pre_skip at", offsetof(struct aveluafi_head, pre_skip), 2);
+    is("head.rate at", offsetof(struct aveluafi_head, rate), 4);
+    is("head.gain at", offsetof(struct aveluafi_head, gain), 8);
+    is("head.family at", offsetof(struct aveluafi_head, family), 10);
+    is("head.streams at", offsetof(struct aveluafi_head, streams), 11);
+    is("head.coupled at", offsetof(struct aveluafi_head, coupled), 12);
+    is("head.mapping at", offsetof(struct aveluafi_head, mapping), 13);
+    is("head_record size", sizeof(struct aveluafi_head_record), 272);
+    is("head_record.number at", offsetof(struct aveluafi_head_record, number), 0);
+    is("head_record.head at", offsetof(struct aveluafi_head_record, head), 4);
+
+    /* document 02's header, there and back; what family 0 means is in none of its bytes */
+    static const uint8_t own[2] = {0, 1};
+    header_of(1, 2, 0);
+    struct aveluafi_head h = reads_head("head stereo", 19, 1, 1, own), wrong;
+    writes_head("head stereo written", &h, sizeof written, 19);
+    writes_head("head stereo written exactly", &h, 19, 19);
+    writes_head("head stereo into 18", &h, 18, AVELUAFI_BUFFER_TOO_SMALL);
+    writes_head("head stereo into 0", &h, 0, AVELUAFI_BUFFER_TOO_SMALL);
+    refuses_head("head 18 bytes", 18, AVELUAFI_BAD_HEADER);
+    refuses_head("head a byte more", 20, AVELUAFI_BAD_HEADER);
+    refuses_head("head no byte", 0, AVELUAFI_BAD_HEADER);
+    header[7] = 'D';
+    refuses_head("head other letters", 19, AVELUAFI_BAD_HEADER);
+    header_of(1, 1, 0);
+    h = reads_head("head mono", 19, 1, 0, own);
+    writes_head("head mono written", &h, 19, 19);
+    h.mapping[0] = 255;
+    writes_head("head mono, silent", &h, 19, AVELUAFI_BAD_FIELD);
+    header_of(1, 3, 0);
+    refuses_head("head family 0, 3 channels", 19, AVELUAFI_BAD_FIELD);
+    header_of(1, 0, 0);
+    refuses_head("head family 0, no channel", 19, AVELUAFI_BAD_FIELD);
+
+    /* versions: another than 1 is read, may be longer, and is not written */
+    header_of(2, 2, 0);
+    h = reads_head("head version 2, a byte more", 20, 1, 1, own);
+    writes_head("head version 2 written", &h, sizeof written, AVELUAFI_BAD_FIELD);
+    header_of(0, 2, 0);
+    reads_head("head version 0", 19, 1, 1, own);
+    header_of(15, 2, 0);
+    reads_head("head version 15", 19, 1, 1, own);
+    header_of(16, 2, 0);
+    refuses_head("head version 16", 19, AVELUAFI_UNKNOWN_VERSION);
+    refuses_head("head version 16, 18 bytes", 18, AVELUAFI_BAD_HEADER);
+    header_of(2, 2, 1), streams_of(1, 1);
+    refuses_head("head version 2, too short", 22, AVELUAFI_BAD_HEADER);
+
+    /* family 1: six channels, of which two pairs are coupled */
+    header_of(1, 6, 1), streams_of(4, 2);
+    h = reads_head("head six channels", 27, 4, 2, header + 21);
+    writes_head("head six channels written", &h, 27, 27);
+    writes_head("head six channels into 26", &h, 26, AVELUAFI_BUFFER_TOO_SMALL);
+    refuses_head("head six channels cut", 26, AVELUAFI_BAD_HEADER);
+    refuses_head("head six channels and a byte", 28, AVELUAFI_BAD_HEADER);
+    header[26] = 255;
+    h = reads_head("head a silent channel", 27, 4, 2, header + 21);
+    writes_head("head a silent channel written", &h, 27, 27);
+    header[26] = 6;
+    refuses_head("head an entry that is the sum", 27, AVELUAFI_BAD_FIELD);
+    header_of(1, 6, 1), streams_of(2, 4);
+    refuses_head("head coupled above streams", 27, AVELUAFI_BAD_FIELD);
+    header_of(1, 0, 1), streams_of(1, 0);
+    refuses_head("head family 1, no channel", 21, AVELUAFI_BAD_FIELD);
+    refuses_head("head family 1, no channel, 20 bytes", 20, AVELUAFI_BAD_HEADER);
+    header_of(1, 8, 1), streams_of(5, 3);
+    reads_head("head family 1, 8 channels", 29, 5, 3, header + 21);
+    header_of(1, 9, 1), streams_of(5, 4);
+    refuses_head("head family 1, 9 channels", 30, AVELUAFI_BAD_FIELD);
+
+    /* the longest, of the last family: a sum of 255 is read, one of 256 is not */
+    header_of(1, 255, 255), streams_of(128, 127);
+    h = reads_head("head 255 channels", AVELUAFI_MOST_HEAD, 128, 127, header + 21);
+    writes_head("head 255 channels written", &h, AVELUAFI_MOST_HEAD, AVELUAFI_MOST_HEAD);
+    writes_head("head 255 channels, a byte too few", &h, AVELUAFI_MOST_HEAD - 1, AVELUAFI_BUFFER_TOO_SMALL);
+    header[20] = 128;
+    refuses_head("head 128 and 128", AVELUAFI_MOST_HEAD, AVELUAFI_BAD_FIELD);
+    header_of(1, 1, 255), streams_of(0, 0), header[21] = 255;
+    refuses_head("head no stream", 22, AVELUAFI_BAD_FIELD);
+
+    /* numbers low byte first, and their ends; a field of its own for each */
+    header_of(1, 2, 0);
+    h = aveluafi_head_read(header, 19).head;
+    h.pre_skip = 0xFEDC, h.rate = 0x89ABCDEF, h.gain = 32767;
+    static const uint8_t numbers[8] = {0xDC, 0xFE, 0xEF, 0xCD, 0xAB, 0x89, 0xFF, 0x7F};
+    for (size_t i = 0; i < sizeof numbers; i++)
+        header[10 + i] = numbers[i];
+    writes_head("head numbers written", &h, 19, 19);
+    wrong = aveluafi_head_read(header, 19).head;
+    is("head numbers read", same_head(&wrong, &h), 1);
+    h.gain = -32768, header[16] = 0, header[17] = 0x80;
+    writes_head("head the least gain written", &h, 19, 19);
+    is("head the least gain read", aveluafi_head_read(header, 19).head.gain, -32768);
+
+    /* fields that the bytes do not carry: -24 before -2 */
+    wrong = h, wrong.streams = 2;
+    writes_head("head family 0, streams 2", &wrong, sizeof written, AVELUAFI_BAD_FIELD);
+    wrong = h, wrong.coupled = 0;
+    writes_head("head family 0, coupled 0", &wrong, sizeof written, AVELUAFI_BAD_FIELD);
+    wrong.mapping[1] = 0;
+    writes_head("head family 0, coupled 0, mapped 0, 0", &wrong, sizeof written, AVELUAFI_BAD_FIELD);
+    wrong = h, wrong.mapping[1] = 0;
+    writes_head("head family 0, mapped 0, 0", &wrong, sizeof written, AVELUAFI_BAD_FIELD);
+    wrong = h, wrong.mapping[2] = 1;
+    writes_head("head an entry past the channels", &wrong, sizeof written, AVELUAFI_BAD_FIELD);
+    wrong = h, wrong.mapping[254] = 1;
+    writes_head("head the last entry", &wrong, sizeof written, AVELUAFI_BAD_FIELD);
+    wrong = h, wrong.version = 0;
+    writes_head("head version 0 into 0", &wrong, 0, AVELUAFI_BAD_FIELD);
+    wrong = h, wrong.channels = 3;
+    writes_head("head family 0, 3 channels written", &wrong, sizeof written, AVELUAFI_BAD_FIELD);
+}
+
 /* An empty std::vector may have no address: NULL with a count of 0 is an empty slice, for every call that takes one. */
 static void nothing(void) {
     struct aveluafi_repacketizer rp;
@@ -495,6 +680,12 @@ static void nothing(void) {
     is("NULL compact capture bytes", holds(NULL, 0), 1);
     is("NULL compact destination", aveluafi_compact(capture, sizeof capture, 0, NULL, 0, 0).number, AVELUAFI_OVER_BUDGET);
     tells("NULL compact destination at the end", aveluafi_compact(capture, sizeof capture, 26, NULL, 0, 0), 26, 0, 0, 0, 0);
+    is("NULL head_read", aveluafi_head_read(NULL, 0).number, AVELUAFI_BAD_HEADER);
+    header_of(1, 2, 0);
+    struct aveluafi_head h = aveluafi_head_read(header, 19).head;
+    is("NULL head_write", aveluafi_head_write(&h, NULL, 0), AVELUAFI_BUFFER_TOO_SMALL);
+    h.version = 2;
+    is("NULL head_write version 2", aveluafi_head_write(&h, NULL, 0), AVELUAFI_BAD_FIELD);
 }
 
 int main(void) {
@@ -509,6 +700,7 @@ int main(void) {
     judging();
     captures();
     compacting();
+    heading();
     nothing();
     is("the last", failures, 0);
     return failures > 0;

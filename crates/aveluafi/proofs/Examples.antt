@@ -16,11 +16,14 @@ use Rattle.opus_format.specs.Reading.{read}
 use Rattle.opus.specs.Answers.{parsed}
 use Rattle.capture.specs.Finding.{packetLength, before, recordFrom, nextRecord}
 use Rattle.compaction.specs.Share.{noShare}
-use Rattle.aveluafi.specs.Records.{sizeRecord, packetRecord, captureRecord, shareRecord}
+use Rattle.opus_head.specs.Header.{letters}
+use Rattle.opus_head.specs.Reading.{fieldsFit, headRead}
+use Rattle.aveluafi.specs.Records.{sizeRecord, packetRecord, captureRecord, shareRecord, headRecord}
 use Rattle.aveluafi.specs.declared.reading.AveluafiSize.{AveluafiSize}
 use Rattle.aveluafi.specs.declared.reading.AveluafiPacket.{AveluafiPacket}
 use Rattle.aveluafi.specs.declared.captures.AveluafiRecord.{AveluafiRecord}
 use Rattle.aveluafi.specs.declared.compacting.AveluafiShare.{AveluafiShare}
+use Rattle.aveluafi.specs.declared.identification.AveluafiHead.{AveluafiHead}
 
 -- FC 01 is 256 in two bytes; cut short it is -1 with the rule that was told, at place 0; told rule 5 it is -1 without a rule
 pub sizes-in-c : sizeRecord (parseSize 7 (0xfc ∷ 0x01 ∷ [])) ∷ sizeRecord (parseSize 7 (0xfc ∷ [])) ∷ sizeRecord (parseSize 5 (0xfc ∷ [])) ∷ []
@@ -69,3 +72,43 @@ pub shares-in-c : shareRecord (record { verdict = Accepted; resume = 26; records
     ≡ record { number = pos 0; resume = 26; records = 3; written = 22; reclaimed = 1; passed = 4 }
     ∷ record { number = negsuc 20; resume = 0; records = 0; written = 0; reclaimed = 0; passed = 0 } ∷ []
 shares-in-c = refl
+
+-- an identification header of six channels, each field told apart; cut before its last byte
+abbrev six : List ℕ
+six = letters ++ (1 ∷ 6 ∷ 0x38 ∷ 0x01 ∷ 0x80 ∷ 0xbb ∷ 0 ∷ 0 ∷ 0 ∷ 0xff ∷ 7 ∷ 4 ∷ 2 ∷ 0 ∷ 4 ∷ 1 ∷ 2 ∷ 3 ∷ [])
+
+pub head-in-c : headRecord (headRead (six ++ (5 ∷ [])))
+    ≡ record {
+      number = pos 0;
+      head = record {
+        version = 1;
+        channels = 6;
+        «pre_skip» = 312;
+        rate = 48000;
+        gain = negsuc 255;
+        family = 7;
+        streams = 4;
+        coupled = 2;
+        mapping = 0 ∷ 4 ∷ 1 ∷ 2 ∷ 3 ∷ 5 ∷ replicate 249 0;
+      };
+    }
+unfolding headRead fieldsFit
+head-in-c = refl
+
+pub refused-head-in-c : headRecord (headRead six)
+    ≡ record {
+      number = negsuc 21;
+      head = record {
+        version = 0;
+        channels = 0;
+        «pre_skip» = 0;
+        rate = 0;
+        gain = pos 0;
+        family = 0;
+        streams = 0;
+        coupled = 0;
+        mapping = replicate 255 0;
+      };
+    }
+unfolding headRead fieldsFit
+refused-head-in-c = refl

@@ -8,6 +8,7 @@
 --     long-record, broken-record   a packet that is too long, or breaks a rule
 --     record-found                 a record of a capture
 --     share-made                   a share of compaction
+--     head-made                    an identification header
 -- Assumes nothing.
 use Prim.Native.Nat.{ℕ, _-_, _≤_, _<_}
 use native.Mathlib.Omega.{arith}
@@ -47,7 +48,8 @@ use Rattle.opus.proofs.Lent.{lent-accepted}
 use Rattle.opus_format.proofs.Facts.{facts}
 use Rattle.capture.specs.declared.NextRecord.{NextRecord}
 use Rattle.compaction.specs.declared.Share.{Share}
-use Rattle.aveluafi.specs.Records.{sizeRecord, packetRecord, wholeRecord, captureRecord, shareRecord}
+use Rattle.opus_head.specs.declared.HeadRead.{HeadRead}
+use Rattle.aveluafi.specs.Records.{sizeRecord, packetRecord, wholeRecord, captureRecord, shareRecord, headRecord}
 
 -- ---- a packet that was read, with its lengths in the array l
 few : (sd : Bool) (p : List ℕ) → Bytes p → parsed sd p .count ≤ 48
@@ -178,3 +180,8 @@ pub share-made : (r : Share) {a : Share} → r ≡ a → {n : ℤ} → n ≡ ver
     }
     ≡ shareRecord a
 share-made r e m = rw m (ap shareRecord e)
+
+-- ---- an identification header
+pub head-made : (r : HeadRead) {a : HeadRead} → r ≡ a → {n : ℤ} → n ≡ verdictNumber (pos 0) (r .verdict)
+    → record { number = n; head = r .head } ≡ headRecord a
+head-made r e m = rw m (ap headRecord e)

@@ -1,7 +1,8 @@
 -- The core's answers as the records that C sees: the verdict becomes its report, that is number, rule and place, and the other fields are the same.
 use Prim.Native.Nat.{ℕ}
 use mathlib.Core.List.{List}
-use Rattle.opus_defines.specs.Numbers.{verdictReport}
+use lib.IntN.{pos}
+use Rattle.opus_defines.specs.Numbers.{verdictReport, verdictNumber}
 use Rattle.opus_defines.specs.declared.Verdict.the-variants.{Accepted}
 use Rattle.opus_size.specs.declared.Size.{Size}
 use Rattle.opus.specs.declared.Packet.{Packet}
@@ -14,6 +15,8 @@ use Rattle.aveluafi.specs.declared.captures.AveluafiRecord.{AveluafiReco
 use Rattle.compaction.specs.Share.{shareNumber}
 use Rattle.compaction.specs.declared.Share.{Share}
 use Rattle.aveluafi.specs.declared.compacting.AveluafiShare.{AveluafiShare}
+use Rattle.opus_head.specs.declared.HeadRead.{HeadRead}
+use Rattle.aveluafi.specs.declared.identification.AveluafiHead.{AveluafiHead}
 
 -- the number is the bytes of the field, or the refusal's
 abbrev pub sizeRecord : Size → AveluafiSize
@@ -50,3 +53,6 @@ shareRecord a =
       reclaimed = a .reclaimed;
       passed = a .passed;
     }
+
+abbrev pub headRecord : HeadRead → AveluafiHead
+headRecord r = record { number = verdictNumber (pos 0) (r .verdict); head = r .head }

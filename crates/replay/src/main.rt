@@ -5,6 +5,8 @@ use replay_collector::collect_case;
 use replay_collector::places_case;
 use replay_compaction::choice_case;
 use replay_compaction::share_case;
+use replay_heads::read_case;
+use replay_heads::write_case;
 use replay_in_place::in_place_case;
 use replay_io::input::ByteAt;
 use replay_io::input::Cursor;
@@ -23,7 +25,7 @@ use replay_reading::reading_case;
 use replay_streams::join_case;
 use replay_streams::take_case;
 
-// Which crate answers a kind. Only the collector, compaction and the streams need the store.
+// Which crate answers a kind. Only the collector, compaction, the streams and a header to be written need the store.
 fn case(
     input: &mut [u8],
     c: Cursor,
@@ -46,6 +48,8 @@ fn case(
         24 => judge_case(input, c, work, out, at),
         25 => share_case(input, c, work, store, out, at),
         26 => choice_case(input, c, work, store, out, at),
+        27 => read_case(input, c, work, out, at),
+        28 => write_case(input, c, work, store, out, at),
         _ => reading_case(input, c, work, out, at, kind),
     }
 }

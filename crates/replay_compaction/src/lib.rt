@@ -9,7 +9,7 @@ use replay_io::input::bytes;
 use replay_io::input::four;
 use replay_io::input::length;
 use replay_io::output::buffer;
-use replay_io::output::decimal;
+use replay_io::output::field;
 use replay_io::output::number;
 use replay_io::output::put;
 use replay_io::room::unset;
@@ -26,12 +26,6 @@ fn natural(input: &mut [u8], c: Cursor) -> NumberAt {
 }
 
 // ---- a share
-
-// A number behind a space.
-fn field(out: &mut [u8], at: usize, n: usize) -> usize {
-    let next = put(out, at, b' ');
-    decimal(out, next, n)
-}
 
 fn told(out: &mut [u8], at: usize, s: Share) -> usize {
     let v = s.verdict;

@@ -33,7 +33,7 @@ pub enum NumberAt {
 }
 
 // Where the input goes on behind a packet.
-enum Taken {
+pub enum Taken {
     Whole(Cursor),
     Cut,
 }
@@ -222,7 +222,7 @@ fn copied(input: &[u8], c: Cursor, work: &mut [u8], to: usize, k: usize) {
 }
 
 // Takes n bytes off the input to the start of `work`.
-fn take(input: &mut [u8], c: Cursor, work: &mut [u8], n: usize) -> Taken {
+pub fn take(input: &mut [u8], c: Cursor, work: &mut [u8], n: usize) -> Taken {
     let mut next = c;
     let mut done: usize = 0;
     while done < n {

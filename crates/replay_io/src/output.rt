@@ -41,9 +41,13 @@ pub fn refusal(out: &mut [u8], at: usize, e: Refusal) -> usize {
 }
 
 // A number behind a space.
-pub fn spaced(out: &mut [u8], at: usize, n: u16) -> usize {
+pub fn field(out: &mut [u8], at: usize, n: usize) -> usize {
     let next = put(out, at, b' ');
-    decimal(out, next, n as usize)
+    decimal(out, next, n)
+}
+
+pub fn spaced(out: &mut [u8], at: usize, n: u16) -> usize {
+    field(out, at, n as usize)
 }
 
 // Number, rule and place.

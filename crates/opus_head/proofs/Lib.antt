@@ -1,0 +1,14 @@
+pub mod Fitting
+pub mod Letters
+pub mod Gain
+pub mod Fields
+pub mod Laid
+pub mod Answered
+pub mod Numbers
+pub mod Ruling
+pub mod Spelled
+pub mod Exactly
+pub mod Written
+pub mod Back
+pub mod Promises
+pub mod Examples

@@ -1,0 +1,4 @@
+pub mod Header
+pub mod Reading
+pub mod Parts
+pub mod Heads
