@@ -58,7 +58,8 @@ pub record Taken (six : ℕ) (frames : List (List ℕ)) (left : ℕ) (begin end 
   pub effect : outFrames false false six frames begin end left ≡ written (compact false six (range (natural begin) (natural end) frames))
 
 module _ (six : ℕ) (frames : List (List ℕ)) (left : ℕ) where
-  pub taken : (begin end : ℤ) → ((e : Refusal) → outFrames false false six frames begin end left ≡ refusal e → ⊥) → Taken six frames left begin end
+  pub taken : (begin end : ℤ) → ((e : Refusal) → outFrames false false six frames begin end left ≡ refusal e → ⊥)
+      → Taken six frames left begin end
   taken (negsuc b) end t = absurd (t BadArg refl)
   taken (pos b) (negsuc e) t = absurd (t BadArg refl)
   taken (pos b) (pos e) t =

@@ -71,7 +71,8 @@ unreadable-or-not BadHeader = inr (λ rule place q. never (cc))
 unreadable-or-not UnknownVersion = inr (λ rule place q. never (cc))
 unreadable-or-not BadField = inr (λ rule place q. never (cc))
 
-pub other-or : {A : Type 0} (f : Rule → ℕ → A) (a : A) (e : Refusal) → ((rule : Rule) (place : ℕ) → e ≡ Unreadable rule place → ⊥) → unreadableOr f a e ≡ a
+pub other-or : {A : Type 0} (f : Rule → ℕ → A) (a : A) (e : Refusal) → ((rule : Rule) (place : ℕ) → e ≡ Unreadable rule place → ⊥)
+    → unreadableOr f a e ≡ a
 other-or f a (Unreadable rule place) u = absurd (u rule place refl)
 other-or f a BadArg u = refl
 other-or f a BufferTooSmall u = refl

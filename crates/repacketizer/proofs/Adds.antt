@@ -296,7 +296,8 @@ took-packet sd rp p toc ns first e =
     (λ k. by-test (staysOut rp p) (λ o. never (let q = rw (k, o) at e in cc))
     (λ o. go (ltb-false 65535 (length p) k) o (read sd p) refl (rw (k, o) at e)))
   where
-    go : length p ≤ 65535 → staysOut rp p ≡ false → (x : Reading) → read sd p ≡ x → readAdds x ≡ takes toc ns first → Took sd rp p toc ns first
+    go : length p ≤ 65535 → staysOut rp p ≡ false → (x : Reading) → read sd p ≡ x → readAdds x ≡ takes toc ns first
+        → Took sd rp p toc ns first
     go k o (refused rule place) q e = never (cc)
     go k o (accepted toc′ ns′ first′ end) q e =
         let same : accepted toc′ ns′ first′ end ≡ accepted toc ns first end = cc in

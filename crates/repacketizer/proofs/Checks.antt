@@ -43,7 +43,8 @@ module _ (ns ks : List ℕ) (wrong : ℕ) (w : leb wrong 1 ≡ keptWell ns ks) w
   pub held-wrong : 1 < wrong → unsoundly ≡ checkedHeld ns ks
   held-wrong h = rw (sym w ∙ lt-leb wrong 1 h)
 
-  pub held-right : wrong ≤ 1 → length ns ≤ 48 → {sum k : ℕ} → sum ≡ total ns % 65536 → k ≡ sum → record { sound = true; total = k } ≡ checkedHeld ns ks
+  pub held-right : wrong ≤ 1 → length ns ≤ 48 → {sum k : ℕ} → sum ≡ total ns % 65536 → k ≡ sum
+      → record { sound = true; total = k } ≡ checkedHeld ns ks
   held-right h few s q =
       let well : keptWell ns ks ≡ true = sym w ∙ le-leb wrong 1 h in
       let small = leb-true (longest ns) mostBytes (both-left (leb (longest ns) mostBytes) (numbered ks) well) in

@@ -88,7 +88,8 @@ unfolding added addedStrictly addPacketBy
 by-sound false sd rp p store s h = rw (s, le-ltb (length store) leastStore h)
 by-sound true sd rp p store s h = rw (s, le-ltb (length store) leastStore h)
 
-pub by-unsound : (strict sd : Bool) (rp : OpusRepacketizer) (p store : List ℕ) → sound rp ≡ false → addedBy strict sd rp p store ≡ noAdd InvalidState rp store
+pub by-unsound : (strict sd : Bool) (rp : OpusRepacketizer) (p store : List ℕ) → sound rp ≡ false
+    → addedBy strict sd rp p store ≡ noAdd InvalidState rp store
 unfolding added addedStrictly
 by-unsound false sd rp p store s = rw s
 by-unsound true sd rp p store s = rw s

@@ -531,7 +531,8 @@ pub fn add(
     store: &mut [u8],
 ) -> AddedHead
     ensures answer { λ r. ⌜ addedOf r (now (len .exit)) (now (packet .exit))
-        ≡ addedBy strict «self_delimited» (collectorOf h (now (len .entry)) (now (packet .entry))) (now («data» .entry)) (now (store .entry)) .answer ⌝ }
+        ≡ addedBy strict «self_delimited» (collectorOf h (now (len .entry)) (now (packet .entry))) (now («data» .entry)) (now (store .entry))
+        .answer ⌝ }
     ensures bytes { λ _. ⌜ now (store .exit)
         ≡ addedBy strict «self_delimited» (collectorOf h (now (len .entry)) (now (packet .entry))) (now («data» .entry)) (now (store .entry)) .store ⌝ }
     ensures few { λ r. ⌜ r .count < 65536 ⌝ }

@@ -35,7 +35,8 @@ unfolding broughtBy
 block-same k [] fs ns = refl
 block-same k (x ∷ f) fs ns = rw (eq-eqb k k refl, block-same k f fs ns)
 
-block-other : (k j : ℕ) → (j ≡ k → ⊥) → (f fs : List (List ℕ)) (ns : List ℕ) → broughtBy k (replicate (length f) j ++ ns) (f ++ fs) ≡ broughtBy k ns fs
+block-other : (k j : ℕ) → (j ≡ k → ⊥) → (f fs : List (List ℕ)) (ns : List ℕ)
+    → broughtBy k (replicate (length f) j ++ ns) (f ++ fs) ≡ broughtBy k ns fs
 unfolding broughtBy
 block-other k j d [] fs ns = refl
 block-other k j d (x ∷ f) fs ns = rw (ne-eqb j k d, block-other k j d f fs ns)

@@ -264,7 +264,8 @@ range-fits n packet (pos k) =
     )))
 
 pub numbered-as : (rp : OpusRepacketizer) → rp .toc < 256 → length (rp .len) ≡ 48 → length (rp .packet) ≡ 48
-    → (store : List ℕ) (number : ℤ) (dst : List ℕ) → SFits w32 number → {r : Range} → r ≡ rangeOf (rp .«nb_frames») (rp .packet) (toZ w32 (ofZ w32 number))
+    → (store : List ℕ) (number : ℤ) (dst : List ℕ) → SFits w32 number → {r : Range}
+    → r ≡ rangeOf (rp .«nb_frames») (rp .packet) (toZ w32 (ofZ w32 number))
     → outNumbered rp store number dst ≡ outRange false false rp store (toZ w32 (ofZ w32 (r .begin))) (toZ w32 (ofZ w32 (r .end))) dst
 numbered-as rp b l m store number dst f e =
     let k = range-fits (rp .«nb_frames») (rp .packet) number in

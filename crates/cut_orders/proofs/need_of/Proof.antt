@@ -60,8 +60,11 @@ ends c =
 returns-3 : tie.Need-returns-3
 returns-3 c =
     let k = c .before in
-    let a = entry k .args in
-    (omega arith, λ store dst j. rw (effect-none (upperSix (a .h .toc)) (held (bare (a .h) (a .len .now)) store) (a .room) (begins k) (ends k) (c .if1 .taken)))
+    let a = entry k .args in (
+      omega arith,
+      λ store dst j. rw (effect-none (upperSix (a .h .toc)) (held (bare (a .h) (a .len .now)) store) (a .room) (begins k) (ends k)
+          (c .if1 .taken)),
+    )
 
 returns-4 : tie.Need-returns-4
 returns-4 c =

@@ -23,4 +23,5 @@ returns-3 c =
     c .silk-8k .ensures ∙ silk-8k (s .args .toc) (omega (arith, s .fits .toc)) (c .before .before .if1 .left) (c .before .if2 .left)
 
 pub samples-8k-spec : {M : Type 1} → statement M
-samples-8k-spec = tie.close (tie.spec (λ c κs. search needs) returns (λ c. search needs) (λ c κs. search needs) returns-2 (λ c κs. search needs) returns-3)
+samples-8k-spec =
+    tie.close (tie.spec (λ c κs. search needs) returns (λ c. search needs) (λ c κs. search needs) returns-2 (λ c κs. search needs) returns-3)

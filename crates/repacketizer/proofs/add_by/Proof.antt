@@ -33,7 +33,8 @@ returns-2 c =
     let t = b .before .before .before in
     let d = t .before in
     let a = entry d .args in
-    rw (by-no-dirt (a .strict) (a .self-delimited) (bare (a .h) (a .len .now)) (a .«data» .now) (a .store .now) (sym (d .asks-dirt .ensures) ∙ t .if1 .left))
+    rw (by-no-dirt (a .strict) (a .self-delimited) (bare (a .h) (a .len .now)) (a .«data» .now) (a .store .now)
+    (sym (d .asks-dirt .ensures) ∙ t .if1 .left))
     (b .add-packet .ensures)
 
 pub add-by-spec : {M : Type 1} → statement M

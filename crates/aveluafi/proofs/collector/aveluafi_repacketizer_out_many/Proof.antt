@@ -160,7 +160,8 @@ module _ {M : Type 1} (𝓤 : URA M) (H : Heap 𝓤) (A : Atoms 𝓤) (W : Given
       alloc1 ! (λ l₀. alloc1 ! (λ l₁. alloc1 ! (λ l₂. alloc1 ! (λ l₃. alloc1 ! (λ l₄. alloc1 ! (λ l₅. alloc1 ! (λ l₆. alloc1 ! (λ l₇.
       alloc1 ! (λ l₈. alloc1 ! (λ l₉. alloc1 ! (λ l₁₀. alloc1 ! (λ l₁₁. alloc1 ! (λ l₁₂. alloc1 ! (λ l₁₃. alloc1 ! (λ l₁₄.
       alloc0 ! $ params1 ! $ pass1 ! (init ! 26 refl (tt, tt)) $ pass1 ! (init ! 24 refl (tt, (tt, (record { fits = room .0 }, tt)))) $
-      pass1 ! (init ! 22 refl (tt, (tt, (record { fits = room′ .0 }, tt)))) $ pass1 ! (init ! 20 refl (tt, (tt, (record { fits = room″ .0 }, tt)))) $ pass0 ! $
+      pass1 ! (init ! 22 refl (tt, (tt, (record { fits = room′ .0 }, tt)))) $
+      pass1 ! (init ! 20 refl (tt, (tt, (record { fits = room″ .0 }, tt)))) $ pass0 ! $
       -- [_14; …; to _1; …; room for _0; …; the reference; what the others own; its token; their tokens]
       move ! (30 ∷ 32 ∷ []) $ looked ! tt T.the-type T′.the-laws T′.the-copy h γ b o (λ q′ g.
       -- the head. [a share of the collector's cell; the open borrow; _14; …; to _1; …; room for _0; …; what the others own; the tokens]
