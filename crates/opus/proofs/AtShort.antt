@@ -106,14 +106,21 @@ unfolding shortAt read
 short-empty [] e = refl
 short-empty (a ∷ d) e = absurd (omega arith)
 
+-- the code is not 3 where one of its two bits is not set
 module _ (d : List ℕ) where
-  pub short-read : {c : ℕ} → code (getD d 0 0) ≡ c → c < 3 → {r : Short} → r ≡ shortOf (read false d) → r ≡ shortAt d
+  short-read : (code (getD d 0 0) ≡ 3 → ⊥) → {r : Short} → r ≡ shortOf (read false d) → r ≡ shortAt d
   unfolding shortAt
-  short-read e l q = rw (ne-eqb (code (getD d 0 0)) 3 (omega arith)) q
+  short-read n q = rw (ne-eqb (code (getD d 0 0)) 3 n) q
 
-  pub short-counted : (code (getD d 0 0) ≡ 0 → ⊥) → (code (getD d 0 0) ≡ 1 → ⊥) → (code (getD d 0 0) ≡ 2 → ⊥) → Counted ≡ shortAt d
+  pub short-low : getD d 0 0 / 2 % 2 ≡ 0 → {r : Short} → r ≡ shortOf (read false d) → r ≡ shortAt d
+  short-low e q = short-read (λ c. absurd (omega (arith, e, c))) q
+
+  pub short-even : getD d 0 0 % 2 ≡ 0 → {r : Short} → r ≡ shortOf (read false d) → r ≡ shortAt d
+  short-even e q = short-read (λ c. absurd (omega (arith, e, c))) q
+
+  pub short-counted : (getD d 0 0 / 2 % 2 ≡ 0 → ⊥) → (getD d 0 0 % 2 ≡ 0 → ⊥) → Counted ≡ shortAt d
   unfolding shortAt
-  short-counted n₀ n₁ n₂ = rw (eq-eqb (code (getD d 0 0)) 3 (omega arith))
+  short-counted h l = rw (eq-eqb (code (getD d 0 0)) 3 (omega arith))
 
 -- ---- a packet of code 0, 1 or 2: one frame or two behind at most three bytes, and nothing behind them
 layout-short : {six : ℕ} {head ns : List ℕ} {pad : ℕ} → Layout false six head ns pad → (code (getD head 0 0) ≡ 3 → ⊥)

@@ -312,20 +312,25 @@ fn two_unequal(data: &[u8]) -> Short
     Short::Two(n, last as u16, first)
 }
 
-// Reads an ordinary packet of code 0, 1 or 2 without an array for its lengths, which costs more than the reading itself.
+// Reads an ordinary packet of code 0, 1 or 2 without an array for its lengths, which costs more than the reading itself. The code is told bit by bit: of
+// a `match` a table of jumps would be made.
 pub fn short_at(data: &[u8]) -> Short
     ensures { λ r. ⌜ r ≡ shortAt (now («data» .entry)) ⌝ }
 {
     if data.len() == 0 {
         return Short::Broken(Rule::R1, 0);
     }
-    let c = data[0] % 4;
-    match c {
-        0 => one_frame(data),
-        1 => two_equal(data),
-        2 => two_unequal(data),
-        _ => Short::Counted,
+    let toc = data[0];
+    if toc / 2 % 2 == 0 {
+        if toc % 2 == 0 {
+            return one_frame(data);
+        }
+        return two_equal(data);
     }
+    if toc % 2 == 0 {
+        return two_unequal(data);
+    }
+    Short::Counted
 }
 
 // Reads the packet at the front of `data`, and puts the lengths of its frames into `lengths`, which come as zeros. Beside a refusal

@@ -2,7 +2,7 @@
 -- Assumes nothing.
 use native.Mathlib.Omega.{arith}
 use borrow.Author.Needs.{needs}
-use Rattle.opus.proofs.AtShort.{short-empty, short-read, short-counted}
+use Rattle.opus.proofs.AtShort.{short-empty, short-low, short-even, short-counted}
 use Rattle.opus.proofs.short_at.Statement.{statement}
 use Rattle.opus.proofs.short_at.Tie as tie
 
@@ -11,26 +11,22 @@ returns c = short-empty (c .before .before .args .«data» .now) (c .if1 .taken)
 
 returns-2 : tie.Need-returns-2
 returns-2 c =
-    let m = c .before in
-    let a = m .before .before .before .before .args in
-    short-read (a .«data» .now) (m .match .keys1) (omega arith) (c .one-frame .ensures)
+    let low = c .before .before in
+    short-low (low .before .before .before .before .args .«data» .now) (low .if2 .taken) (c .one-frame .ensures)
 
 returns-3 : tie.Need-returns-3
 returns-3 c =
-    let m = c .before in
-    let a = m .before .before .before .before .args in
-    short-read (a .«data» .now) (m .match .keys2) (omega arith) (c .two-equal .ensures)
+    let low = c .before .before in
+    short-low (low .before .before .before .before .args .«data» .now) (low .if2 .taken) (c .two-equal .ensures)
 
 returns-4 : tie.Need-returns-4
 returns-4 c =
-    let m = c .before in
-    let a = m .before .before .before .before .args in
-    short-read (a .«data» .now) (m .match .keys3) (omega arith) (c .two-unequal .ensures)
+    let even = c .before in
+    short-even (even .before .before .before .before .before .args .«data» .now) (even .if4 .taken) (c .two-unequal .ensures)
 
 returns-5 : tie.Need-returns-5
 returns-5 c =
-    let r = c .match .rest in
-    short-counted (c .before .before .before .before .args .«data» .now) (r .0 .0 .1) (r .0 .1) (r .1)
+    short-counted (c .before .before .before .before .before .args .«data» .now) (c .before .if2 .left) (c .if4 .left)
 
 pub short-at-spec : {M : Type 1} → statement M
 short-at-spec =
@@ -39,9 +35,9 @@ short-at-spec =
     returns
     (λ c. search needs)
     (λ c κs. search needs)
-    (λ c κs. search needs)
-    (λ c κs. search needs)
     returns-2
+    (λ c κs. search needs)
     returns-3
+    (λ c κs. search needs)
     returns-4
     returns-5)
