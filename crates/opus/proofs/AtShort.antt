@@ -160,6 +160,7 @@ pub record ShortRead (p ns : List ℕ) (first : ℕ) : Type 0 where
   pub known : Facts (length p) (getD p 0 0) ns first taken
   pub whole : taken ≡ length p
   pub short : length p ≤ 65535
+  pub uncounted : code (getD p 0 0) ≡ 3 → ⊥
 
 data Answered (p : List ℕ) : Short → Type 0 where
   one : (n first : ℕ) → ShortRead p (n ∷ []) first → Answered p (One n first)
@@ -184,6 +185,7 @@ answered p bytes =
           known = f;
           whole = all-taken p toc ns first taken w;
           short = omega (arith, few-bytes p toc ns first taken w (f .headed) c);
+          uncounted = c;
         }
 
     go : (code (getD p 0 0) ≡ 3 → ⊥) → (x : Reading) → read false p ≡ x → Answered p (shortOf x)

@@ -7,14 +7,14 @@
 --     block-.., add-..                      an add by each of its tests
 --     Ends, ends, refused-same              the two ways in which an add ends
 -- Assumes nothing.
-use Prim.Native.Nat.{ℕ, zero, suc, _+_, _*_, _≤_, _<_}
+use Prim.Native.Nat.{ℕ, zero, suc, _+_, _*_, _-_, _≤_, _<_}
 use native.Mathlib.Nat.{zero-add}
 use native.Mathlib.Omega.{arith}
 use mathlib.Core.Path.{_≡_, refl, sym, _∙_}
 use mathlib.Core.List.{List, [], _∷_}
 use mathlib.Core.Bool.{Bool, true, false, not, cond}
 use lib.Dec.{ltb, leb, eqb}
-use lib.ListN.{length, getD}
+use lib.ListN.{length, getD, replicate}
 use lib.Seq.{sets}
 use borrow.Author.Tests.{eqb-true, eqb-false, ltb-false, lt-ltb, le-ltb, eq-eqb, ne-eqb, not-true, not-false}
 use Rattle.laws.specs.Bytes.{Bytes}
@@ -36,6 +36,8 @@ use Rattle.opus_format.proofs.Counts.{lasts-few, lasts-passes}
 use Rattle.opus_format.proofs.Facts.{facts, said}
 use Rattle.opus_format.proofs.Sound.{read-spelled}
 use Rattle.blocks.specs.Blocks.{copied}
+use Rattle.packet_numbers.specs.Numbers.{numberAfter}
+use Rattle.packet_numbers.proofs.Numbering.{last-small}
 use Rattle.repacketizer.specs.declared.OpusRepacketizer.{OpusRepacketizer}
 use Rattle.repacketizer.specs.declared.Head.{Head}
 use Rattle.repacketizer.specs.declared.AddedHead.{AddedHead}
@@ -45,7 +47,7 @@ use Rattle.repacketizer.specs.Adding.{Addition, refusal, takes, leavesAd
 use Rattle.repacketizer.specs.Parts.{collectorOf, bare, refusedHead, moreFrames, addBlock, whyNot, addedOf}
 use Rattle.opus_format.proofs.Lengths.{total-most}
 use Rattle.repacketizer.proofs.Held.{holding}
-use Rattle.repacketizer.proofs.Sound.{Timed, timed-lasts, lasts-timed, none-sound, framed-full}
+use Rattle.repacketizer.proofs.Sound.{Timed, timed-lasts, lasts-timed, none-sound, framed-full, sound-framed, sound-numbered}
 
 -- ---- whether frames go with those held
 module _ (rp : OpusRepacketizer) (toc n : ℕ) where
@@ -150,9 +152,9 @@ stays-lengths h l m k n [] = refl
 stays-lengths h l m k n (toc ∷ s) = refl
 
 -- so a refusal is what the code finds without them
-pub why-refused : (h : Head) (len p store : List ℕ) (e : Refusal) {x : Refusal} {a : Adding} → x ≡ whyNot (bare h []) p e
-    → a ≡ noAdd (whyNot (bare h len) p e) (bare h len) store → a ≡ noAdd x (bare h len) store
-why-refused h len p store e q g = rw q (rw (stays-lengths h [] len [] [] p) g)
+pub why-refused : (h : Head) (len packet p store : List ℕ) (e : Refusal) {x : Refusal} {a : Adding} → x ≡ whyNot (bare h []) p e
+    → a ≡ noAdd (whyNot (collectorOf h len packet) p e) (collectorOf h len packet) store → a ≡ noAdd x (collectorOf h len packet) store
+why-refused h len packet p store e q g = rw q (rw (stays-lengths h [] len [] packet p) g)
 
 -- a packet that is said to have n frames, by the tests of the code
 module _ (rp : OpusRepacketizer) (p : List ℕ) where
@@ -197,48 +199,56 @@ module _ (rp : OpusRepacketizer) (toc : ℕ) (ns p : List ℕ) (first : ℕ) (st
   unfolding addBlock
   block-added g = rw g
 
--- ---- the same as the code makes it, of the collector with a head and lengths, its numbers left aside
-sets-none : (at : ℕ) (vs : List ℕ) → sets [] at vs ≡ []
-sets-none at [] = refl
-sets-none at (v ∷ vs) = sets-none (suc at) vs
-
+-- ---- the same as the code makes it, of the collector with a head, lengths and numbers
 -- frames of lengths ns go with those held, and so are few and fit the store
-pub record Joins (h : Head) (len : List ℕ) (toc : ℕ) (ns : List ℕ) : Type 0 where
-  pub goes : goesWith (bare h len) toc (length ns) ≡ true
+pub record Joins (h : Head) (len packet : List ℕ) (toc : ℕ) (ns : List ℕ) : Type 0 where
+  pub goes : goesWith (collectorOf h len packet) toc (length ns) ≡ true
   pub few : h .«nb_frames» + length ns ≤ 48
-  pub room : total (heldLengths (bare h len)) + total ns ≤ leastStore
+  pub room : total (heldLengths (collectorOf h len packet)) + total ns ≤ leastStore
+  -- the last number held can be counted up
+  pub countable : 1 ≤ h .«nb_frames» → getD packet (h .«nb_frames» - 1) 0 < 255
 
-module _ (h : Head) (len : List ℕ) (b : h .toc < 256) (l : length len ≡ 48) (s : framed (bare h len) ≡ true) where
+module _ (h : Head) (len packet : List ℕ) (b : h .toc < 256) (l : length len ≡ 48) (s : sound (collectorOf h len packet) ≡ true) where
+  abbrev rp : OpusRepacketizer
+  rp = collectorOf h len packet
+
   pub head-few : h .«nb_frames» ≤ 48
-  head-few = holding (bare h len) b l s .few
+  head-few = holding rp b l (sound-framed rp s) .few
 
   -- g says that they go together
-  pub joins : (toc : ℕ) (ns : List ℕ) {g : Bool} → g ≡ goesWith (bare h []) toc (length ns) → not g ≡ false
-      → length ns ≤ 48 → longest ns ≤ mostBytes → Joins h len toc ns
-  joins toc ns e t few small =
-      let goes : goesWith (bare h len) toc (length ns) ≡ true = sym e ∙ not-false _ t in
+  pub joins : length packet ≡ 48 → (toc : ℕ) (ns : List ℕ) {g : Bool} → g ≡ goesWith (bare h []) toc (length ns) → not g ≡ false
+      → length ns ≤ 48 → longest ns ≤ mostBytes → Joins h len packet toc ns
+  joins k toc ns e t few small =
+      let goes : goesWith rp toc (length ns) ≡ true = sym e ∙ not-false _ t in
+      let f = sound-framed rp s in
       record {
         goes = goes;
-        few = with-few (bare h len) toc ns s goes b few;
-        room = with-room (bare h len) toc ns s goes b l few small;
+        few = with-few rp toc ns f goes b few;
+        room = with-room rp toc ns f goes b l few small;
+        countable = last-small packet (h .«nb_frames») (omega (arith, head-few, k)) head-few (sound-numbered rp s);
       }
 
-module _ (h : Head) (len : List ℕ) (toc : ℕ) (ns p : List ℕ) (first : ℕ) (store : List ℕ) where
+module _ (h : Head) (len packet : List ℕ) (toc : ℕ) (ns p : List ℕ) (first : ℕ) (store : List ℕ) where
+  abbrev held-by : OpusRepacketizer
+  held-by = collectorOf h len packet
+
   -- g says that they do not
   pub block-stays : {g : Bool} → g ≡ goesWith (bare h []) toc (length ns) → not g ≡ true
       → {r : AddedHead} → (r ≡ refusedHead InvalidPacket h) × (r .count < 65536)
-      → let block = addBlock (bare h len) toc ns p first store in
-      (addedOf r len [] ≡ block .answer) × ((store ≡ block .store) × (r .count < 65536))
-  block-stays e f q = refused-as (block-refused (bare h len) toc ns p first store (sym e ∙ not-true _ f)) q
+      → let block = addBlock held-by toc ns p first store in
+      (addedOf r len packet ≡ block .answer) × ((store ≡ block .store) × (r .count < 65536))
+  block-stays e f q = refused-as (block-refused held-by toc ns p first store (sym e ∙ not-true _ f)) q
 
   -- with the places that the code found
-  pub block-as : Joins h len toc ns → (at n : ℕ) (r : AddedHead) (all left : List ℕ)
-      → at ≡ total (heldLengths (bare h len)) → n ≡ total ns
-      → r ≡ moreFrames h toc (length ns) → all ≡ sets len (h .«nb_frames») ns → left ≡ copied store at p first n
-      → let block = addBlock (bare h len) toc ns p first store in
-      (addedOf r all [] ≡ block .answer) × ((left ≡ block .store) × (r .count < 65536))
-  block-as j at n r all left a b w l c =
-      rw (block-added (bare h len) toc ns p first store (j .goes), ← a, ← b, w, l, sets-none) (refl, (c, omega (arith, j .few)))
+  pub block-as : Joins h len packet toc ns → (at n place end : ℕ) (r : AddedHead) (all ks left : List ℕ)
+      → at ≡ total (heldLengths held-by) → n ≡ total ns → place ≡ h .«nb_frames» → end ≡ place + length ns
+      → r ≡ moreFrames h toc (length ns) → all ≡ sets len place ns
+      → ks ≡ sets packet place (replicate (end - place) (numberAfter packet place)) → left ≡ copied store at p first n
+      → let block = addBlock held-by toc ns p first store in
+      (addedOf r all ks ≡ block .answer) × ((left ≡ block .store) × (r .count < 65536))
+  block-as j at n place end r all ks left a b q e w l k c =
+      let m : end - place ≡ length ns = omega arith in
+      rw (block-added held-by toc ns p first store (j .goes), ← a, ← b, ← q, w, l, k, m) (rw q, (c, omega (arith, j .few)))
 
 module _ (sd : Bool) (rp : OpusRepacketizer) (p store : List ℕ) where
   pub add-unsound : sound rp ≡ false → added sd rp p store ≡ noAdd InvalidState rp store

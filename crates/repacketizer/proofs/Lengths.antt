@@ -1,19 +1,21 @@
 -- Lengths and frames that were stored behind others.
 --     sets-first, sets-again, sets-more     one length more, as a loop stores them
---     one-put, two-put                      one length or two, as the code stores them at the place that it found
+--     two-put                               two lengths, as the code stores them
+--     numbers-kept                          there are as many numbers as before
 --     take-sets-at                          lengths that were stored behind others are read back with them
 --     cut-copied                            frames that were copied behind others are read back with them
 -- Assumes nothing.
-use Prim.Native.Nat.{ℕ, suc, _+_, _≤_, _<_}
+use Prim.Native.Nat.{ℕ, suc, _+_, _-_, _≤_, _<_}
 use native.Mathlib.Omega.{arith}
 use native.Mathlib.Numerals.{add-one}
 use mathlib.Core.Path.{_≡_, ap, sym, _∙_}
 use mathlib.Core.List.{List, [], _∷_, _++_, append-assoc}
-use lib.ListN.{length, getD, take, drop, set, length-append, length-drop}
-use lib.Seq.{sets, set-set, sets-eq, take-at, drop-at, length-take-le}
+use lib.ListN.{length, getD, take, drop, set, replicate, length-append, length-drop}
+use lib.Seq.{sets, set-set, sets-eq, take-at, drop-at, length-take-le, length-sets}
 use Rattle.opus_format.specs.Frames.{cut, total}
 use Rattle.opus_format.proofs.Lengths.{take-next, cut-append, cut-front}
 use Rattle.blocks.specs.Blocks.{part, copied}
+use Rattle.packet_numbers.specs.Numbers.{numberAfter}
 use Rattle.blocks.proofs.Sets.{sets-next, length-part}
 
 -- ---- one length more, behind a first one that stands already
@@ -32,12 +34,13 @@ sets-more ns i h l at =
     rw (take-next ns i h) (sets-next l at i (take i ns) (getD ns i 0) (length-take-le i ns (omega arith)))
 
 -- ---- one length, or two
-module _ (l : List ℕ) (place at : ℕ) where
-  pub one-put : (n : ℕ) → place ≡ at → set l place n ≡ sets l at (n ∷ [])
-  one-put n e = rw e
+module _ (l : List ℕ) (at : ℕ) where
+  pub two-put : (m n : ℕ) → set (set l at m) (at + 1) n ≡ sets l at (m ∷ n ∷ [])
+  two-put m n = rw add-one
 
-  pub two-put : (m n : ℕ) → place ≡ at → set (set l place m) (place + 1) n ≡ sets l at (m ∷ n ∷ [])
-  two-put m n e = rw (e, add-one)
+-- numbers that were given: there are as many as before
+pub numbers-kept : (l : List ℕ) (at end : ℕ) {m : List ℕ} → m ≡ sets l at (replicate (end - at) (numberAfter l at)) → length m ≡ length l
+numbers-kept l at end e = ap length e ∙ length-sets l at (replicate (end - at) (numberAfter l at))
 
 -- ---- what was stored behind others
 pub take-sets-at : (l : List ℕ) (n : ℕ) (vs : List ℕ) → n + length vs ≤ length l → take (n + length vs) (sets l n vs) ≡ take n l ++ vs

@@ -8,7 +8,6 @@ pub mod Parsed
 pub mod Adds
 pub mod Kept
 pub mod StrictAdds
-pub mod Dressed
 pub mod Steps
 pub mod Runs
 pub mod Naming

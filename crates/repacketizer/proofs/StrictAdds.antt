@@ -8,15 +8,16 @@
 --     by-sound, ..             an add of either kind by the collector and the store
 --     strict-dirty, dirty-as   where padding is dirty, nothing is added, and the refusal is what the ordinary add asks first
 --     strict-same              the same by the test of the code, which leaves a packet of over 65,535 bytes to the ordinary add
+--     by-uncounted             a packet of code 0, 1 or 2 has no padding to be asked for
 -- Assumes nothing.
 use Prim.Native.Nat.{ℕ, _≤_, _<_}
 use native.Mathlib.Omega.{arith}
-use mathlib.Core.Path.{_≡_, refl, _∙_}
+use mathlib.Core.Path.{_≡_, refl, sym, _∙_}
 use mathlib.Core.List.{List, []}
 use mathlib.Core.Bool.{Bool, true, false, cond, _&&_}
 use lib.Dec.{ltb, leb}
 use lib.IntN.{negsuc}
-use lib.ListN.{length}
+use lib.ListN.{length, getD}
 use borrow.Author.Tests.{leb-true, le-leb, lt-leb, lt-ltb, le-ltb, ltb-true, ltb-false}
 use Rattle.laws.proofs.Never.{never, by-test}
 use Rattle.laws.proofs.Every.{both-left, both-right}
@@ -24,6 +25,8 @@ use Rattle.opus_defines.specs.declared.Refusal.{Refusal}
 use Rattle.opus_defines.specs.declared.Verdict.the-variants.{Refused}
 use Rattle.opus_defines.specs.declared.Refusal.the-variants.{BadArg, InvalidPacket, InvalidState, DirtyPadding}
 use Rattle.opus_defines.proofs.Outcomes.{rule-number}
+use Rattle.opus_toc.specs.Toc.{code}
+use Rattle.padding.proofs.Asking.{asks-not-3, clean-unasked}
 use Rattle.opus_format.specs.Dirt.{paddingOf, dirty, dirtyPacket}
 use Rattle.opus_format.specs.Reading.{Reading, refused, accepted, read}
 use Rattle.repacketizer.specs.declared.OpusRepacketizer.{OpusRepacketizer}
@@ -31,7 +34,7 @@ use Rattle.repacketizer.specs.declared.Head.{Head}
 use Rattle.repacketizer.specs.Collector.{leastStore, sound}
 use Rattle.repacketizer.specs.Adding.{noAdd, staysOut, Addition, refusal, takes, leavesAdd, readAdds, unlessDirty, adds, addsBy, addPacket, added}
 use Rattle.repacketizer.specs.Adding.{packetAdds, addedStrictly, addedBy, addedNumber}
-use Rattle.repacketizer.specs.Parts.{bare, hasDirt, whyDirty, packetAddsBy, addPacketBy}
+use Rattle.repacketizer.specs.Parts.{collectorOf, bare, hasDirt, whyDirty, packetAddsBy, addPacketBy}
 use Rattle.repacketizer.proofs.Adds.{Took, took, took-packet, stays-lengths}
 
 pub by-adds : (strict sd : Bool) (rp : OpusRepacketizer) (p store : List ℕ)
@@ -161,9 +164,9 @@ module _ (h : Head) (len p : List ℕ) where
   pub why-dirt : staysOut (bare h []) p ≡ false → DirtyPadding ≡ whyDirty (bare h []) p
   why-dirt o = rw o
 
-  pub dirty-as : (sd : Bool) (store : List ℕ) → hasDirt sd p ≡ true → {x : Refusal} → x ≡ whyDirty (bare h []) p
-      → addPacketBy true sd (bare h len) p store ≡ noAdd x (bare h len) store
-  dirty-as sd store d q = strict-dirty sd (bare h len) p store d ∙ rw (q, stays-lengths h len [] [] [] p)
+  pub dirty-as : (packet : List ℕ) (sd : Bool) (store : List ℕ) → hasDirt sd p ≡ true → {x : Refusal} → x ≡ whyDirty (bare h []) p
+      → addPacketBy true sd (collectorOf h len packet) p store ≡ noAdd x (collectorOf h len packet) store
+  dirty-as packet sd store d q = strict-dirty sd (collectorOf h len packet) p store d ∙ rw (q, stays-lengths h len [] packet [] p)
 
 -- an add of either kind, by what the code asks
 pub asks-ordinary : (strict : Bool) (sd : Bool) (p : List ℕ) → strict ≡ false → false ≡ strict && hasDirt sd p
@@ -172,12 +175,25 @@ asks-ordinary strict sd p e = rw e
 pub asks-strict : (strict : Bool) (sd : Bool) (p : List ℕ) → strict ≡ true → {b : Bool} → b ≡ hasDirt sd p → b ≡ strict && hasDirt sd p
 asks-strict strict sd p e q = rw e q
 
-pub by-dirt : (strict sd : Bool) (h : Head) (len p store : List ℕ) → strict && hasDirt sd p ≡ true → {x : Refusal} → x ≡ whyDirty (bare h []) p
-    → addPacketBy strict sd (bare h len) p store ≡ noAdd x (bare h len) store
-by-dirt false sd h len p store d q = never (cc)
-by-dirt true sd h len p store d q = dirty-as h len p sd store d q
+pub by-dirt : (strict sd : Bool) (h : Head) (len packet p store : List ℕ) → strict && hasDirt sd p ≡ true
+    → {x : Refusal} → x ≡ whyDirty (bare h []) p
+    → addPacketBy strict sd (collectorOf h len packet) p store ≡ noAdd x (collectorOf h len packet) store
+by-dirt false sd h len packet p store d q = never (cc)
+by-dirt true sd h len packet p store d q = dirty-as h len p packet sd store d q
 
 pub by-no-dirt : (strict sd : Bool) (rp : OpusRepacketizer) (p store : List ℕ) → strict && hasDirt sd p ≡ false
     → addPacketBy strict sd rp p store ≡ addPacket sd rp p store
 by-no-dirt false sd rp p store d = by-ordinary sd rp p store
 by-no-dirt true sd rp p store d = strict-same sd rp p store d ∙ by-ordinary sd rp p store
+
+-- a packet without a count byte has no padding, so that there is nothing to ask
+pub by-uncounted : (strict sd : Bool) (rp : OpusRepacketizer) (p store : List ℕ) → (code (getD p 0 0) ≡ 3 → ⊥)
+    → addPacketBy strict sd rp p store ≡ addPacket sd rp p store
+by-uncounted strict sd rp p store n = by-no-dirt strict sd rp p store (go strict)
+  where
+    clean : hasDirt sd p ≡ false
+    clean = rw (← clean-unasked sd p (sym (asks-not-3 p n))) (by-test (leb (length p) 65535) (λ t. rw t) (λ t. rw t))
+
+    go : (strict : Bool) → strict && hasDirt sd p ≡ false
+    go false = refl
+    go true = clean

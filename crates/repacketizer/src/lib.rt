@@ -320,10 +320,12 @@ fn refused_add(e: Refusal, h: Head) -> AddedHead
     }
 }
 
-// Adds frames of lengths `ns` that stand in `data` from place `first` on: one block is copied behind those held, which end at `at`.
+// Adds frames of lengths `ns` that stand in `data` from place `first` on: one block is copied behind those held, which end at `at`. The numbers are given
+// here and in the two functions below, where it is known how many frames are new.
 fn add_block(
     h: Head,
     len: &mut [u16],
+    packet: &mut [u8],
     at: usize,
     toc: u8,
     ns: &[u16],
@@ -331,14 +333,14 @@ fn add_block(
     first: usize,
     store: &mut [u8],
 ) -> AddedHead
-    requires collector { ⌜ (length (now len) ≡ 48) × (framed (bare h (now len)) ≡ true)
-        × (at ≡ total (heldLengths (bare h (now len)))) × (leastStore ≤ length (now store)) ⌝ }
+    requires collector { ⌜ (length (now len) ≡ 48) × (length (now packet) ≡ 48) × (sound (collectorOf h (now len) (now packet)) ≡ true)
+        × (at ≡ total (heldLengths (collectorOf h (now len) (now packet)))) × (leastStore ≤ length (now store)) ⌝ }
     requires frames { ⌜ (1 ≤ length (now ns)) × (length (now ns) ≤ 48)
         × (longest (now ns) ≤ mostBytes) × (first + total (now ns) ≤ length (now «data»)) ⌝ }
-    ensures answer { λ r. ⌜ addedOf r (now (len .exit)) []
-        ≡ addBlock (bare h (now (len .entry))) toc (now (ns .entry)) (now («data» .entry)) first (now (store .entry)) .answer ⌝ }
+    ensures answer { λ r. ⌜ addedOf r (now (len .exit)) (now (packet .exit))
+        ≡ addBlock (collectorOf h (now (len .entry)) (now (packet .entry))) toc (now (ns .entry)) (now («data» .entry)) first (now (store .entry)) .answer ⌝ }
     ensures bytes { λ _. ⌜ now (store .exit)
-        ≡ addBlock (bare h (now (len .entry))) toc (now (ns .entry)) (now («data» .entry)) first (now (store .entry)) .store ⌝ }
+        ≡ addBlock (collectorOf h (now (len .entry)) (now (packet .entry))) toc (now (ns .entry)) (now («data» .entry)) first (now (store .entry)) .store ⌝ }
     ensures few { λ r. ⌜ r .count < 65536 ⌝ }
 {
     if !goes_with(h, toc, ns.len() as u16) {
@@ -346,7 +348,9 @@ fn add_block(
     }
     let m = measure(ns);
     blocks::copy_into(store, at, data, first, wide(m.total));
-    put_lengths(len, wide(h.nb_frames), ns);
+    let place = wide(h.nb_frames);
+    put_lengths(len, place, ns);
+    packet_numbers::put_numbers(packet, place, place + ns.len());
     more_frames(h, toc, ns.len())
 }
 
@@ -354,6 +358,7 @@ fn add_block(
 fn add_one(
     h: Head,
     len: &mut [u16],
+    packet: &mut [u8],
     at: usize,
     toc: u8,
     n: u16,
@@ -361,13 +366,13 @@ fn add_one(
     first: usize,
     store: &mut [u8],
 ) -> AddedHead
-    requires collector { ⌜ (length (now len) ≡ 48) × (framed (bare h (now len)) ≡ true)
-        × (at ≡ total (heldLengths (bare h (now len)))) × (leastStore ≤ length (now store)) ⌝ }
+    requires collector { ⌜ (length (now len) ≡ 48) × (length (now packet) ≡ 48) × (sound (collectorOf h (now len) (now packet)) ≡ true)
+        × (at ≡ total (heldLengths (collectorOf h (now len) (now packet)))) × (leastStore ≤ length (now store)) ⌝ }
     requires frames { ⌜ (longest (n ∷ []) ≤ mostBytes) × (first + total (n ∷ []) ≤ length (now «data»)) ⌝ }
-    ensures answer { λ r. ⌜ addedOf r (now (len .exit)) []
-        ≡ addBlock (bare h (now (len .entry))) toc (n ∷ []) (now («data» .entry)) first (now (store .entry)) .answer ⌝ }
+    ensures answer { λ r. ⌜ addedOf r (now (len .exit)) (now (packet .exit))
+        ≡ addBlock (collectorOf h (now (len .entry)) (now (packet .entry))) toc (n ∷ []) (now («data» .entry)) first (now (store .entry)) .answer ⌝ }
     ensures bytes { λ _. ⌜ now (store .exit)
-        ≡ addBlock (bare h (now (len .entry))) toc (n ∷ []) (now («data» .entry)) first (now (store .entry)) .store ⌝ }
+        ≡ addBlock (collectorOf h (now (len .entry)) (now (packet .entry))) toc (n ∷ []) (now («data» .entry)) first (now (store .entry)) .store ⌝ }
     ensures few { λ r. ⌜ r .count < 65536 ⌝ }
 {
     if !goes_with(h, toc, 1) {
@@ -376,6 +381,7 @@ fn add_one(
     blocks::copy_into(store, at, data, first, wide(n));
     let place = wide(h.nb_frames);
     len[place] = n;
+    packet_numbers::put_numbers(packet, place, place + 1);
     more_frames(h, toc, 1)
 }
 
@@ -383,6 +389,7 @@ fn add_one(
 fn add_two(
     h: Head,
     len: &mut [u16],
+    packet: &mut [u8],
     at: usize,
     toc: u8,
     m: u16,
@@ -391,13 +398,13 @@ fn add_two(
     first: usize,
     store: &mut [u8],
 ) -> AddedHead
-    requires collector { ⌜ (length (now len) ≡ 48) × (framed (bare h (now len)) ≡ true)
-        × (at ≡ total (heldLengths (bare h (now len)))) × (leastStore ≤ length (now store)) ⌝ }
+    requires collector { ⌜ (length (now len) ≡ 48) × (length (now packet) ≡ 48) × (sound (collectorOf h (now len) (now packet)) ≡ true)
+        × (at ≡ total (heldLengths (collectorOf h (now len) (now packet)))) × (leastStore ≤ length (now store)) ⌝ }
     requires frames { ⌜ (longest (m ∷ n ∷ []) ≤ mostBytes) × (first + total (m ∷ n ∷ []) ≤ length (now «data»)) ⌝ }
-    ensures answer { λ r. ⌜ addedOf r (now (len .exit)) []
-        ≡ addBlock (bare h (now (len .entry))) toc (m ∷ n ∷ []) (now («data» .entry)) first (now (store .entry)) .answer ⌝ }
+    ensures answer { λ r. ⌜ addedOf r (now (len .exit)) (now (packet .exit))
+        ≡ addBlock (collectorOf h (now (len .entry)) (now (packet .entry))) toc (m ∷ n ∷ []) (now («data» .entry)) first (now (store .entry)) .answer ⌝ }
     ensures bytes { λ _. ⌜ now (store .exit)
-        ≡ addBlock (bare h (now (len .entry))) toc (m ∷ n ∷ []) (now («data» .entry)) first (now (store .entry)) .store ⌝ }
+        ≡ addBlock (collectorOf h (now (len .entry)) (now (packet .entry))) toc (m ∷ n ∷ []) (now («data» .entry)) first (now (store .entry)) .store ⌝ }
     ensures few { λ r. ⌜ r .count < 65536 ⌝ }
 {
     if !goes_with(h, toc, 2) {
@@ -407,24 +414,26 @@ fn add_two(
     let place = wide(h.nb_frames);
     len[place] = m;
     len[place + 1] = n;
+    packet_numbers::put_numbers(packet, place, place + 2);
     more_frames(h, toc, 2)
 }
 
-// Reads a packet of any code and adds it to a sound collector, whose numbers it leaves aside.
+// Reads a packet of any code and adds it to a sound collector.
 fn add_read(
     h: Head,
     len: &mut [u16],
+    packet: &mut [u8],
     at: usize,
     data: &[u8],
     self_delimited: bool,
     store: &mut [u8],
 ) -> AddedHead
-    requires collector { ⌜ (length (now len) ≡ 48) × (framed (bare h (now len)) ≡ true)
-        × (at ≡ total (heldLengths (bare h (now len)))) × (leastStore ≤ length (now store)) ⌝ }
-    ensures answer { λ r. ⌜ addedOf r (now (len .exit)) []
-        ≡ addPacket «self_delimited» (bare h (now (len .entry))) (now («data» .entry)) (now (store .entry)) .answer ⌝ }
+    requires { ⌜ (length (now len) ≡ 48) × (length (now packet) ≡ 48) × (sound (collectorOf h (now len) (now packet)) ≡ true)
+        × (at ≡ total (heldLengths (collectorOf h (now len) (now packet)))) × (leastStore ≤ length (now store)) ⌝ }
+    ensures answer { λ r. ⌜ addedOf r (now (len .exit)) (now (packet .exit))
+        ≡ addPacket «self_delimited» (collectorOf h (now (len .entry)) (now (packet .entry))) (now («data» .entry)) (now (store .entry)) .answer ⌝ }
     ensures bytes { λ _. ⌜ now (store .exit)
-        ≡ addPacket «self_delimited» (bare h (now (len .entry))) (now («data» .entry)) (now (store .entry)) .store ⌝ }
+        ≡ addPacket «self_delimited» (collectorOf h (now (len .entry)) (now (packet .entry))) (now («data» .entry)) (now (store .entry)) .store ⌝ }
     ensures few { λ r. ⌜ r .count < 65536 ⌝ }
 {
     if opus::MOST_PACKET < data.len() {
@@ -436,66 +445,13 @@ fn add_read(
     let Verdict::Refused(e) = v else {
         let n = p.count;
         let first = p.first;
-        return add_block(h, len, at, p.toc, &lengths[..n], data, first, store);
+        return add_block(h, len, packet, at, p.toc, &lengths[..n], data, first, store);
     };
     refused_add(why_not(h, data, e), h)
 }
 
-// Adds a packet to a sound collector: an ordinary one of code 0, 1 or 2 without an array for its lengths. One that breaks a rule, or is over 65,535 bytes
-// long, is left to `add_read` to refuse, so that this way has no refusal to carry.
-fn add_packet(
-    h: Head,
-    len: &mut [u16],
-    at: usize,
-    data: &[u8],
-    self_delimited: bool,
-    store: &mut [u8],
-) -> AddedHead
-    requires { ⌜ (length (now len) ≡ 48) × (framed (bare h (now len)) ≡ true) × (at ≡ total (heldLengths (bare h (now len))))
-        × (leastStore ≤ length (now store)) ⌝ }
-    ensures answer { λ r. ⌜ addedOf r (now (len .exit)) []
-        ≡ addPacket «self_delimited» (bare h (now (len .entry))) (now («data» .entry)) (now (store .entry)) .answer ⌝ }
-    ensures bytes { λ _. ⌜ now (store .exit)
-        ≡ addPacket «self_delimited» (bare h (now (len .entry))) (now («data» .entry)) (now (store .entry)) .store ⌝ }
-    ensures few { λ r. ⌜ r .count < 65536 ⌝ }
-{
-    if self_delimited {
-        return add_read(h, len, at, data, true, store);
-    }
-    let s = opus::short_at(data);
-    match s {
-        Short::One(n, first) => add_one(h, len, at, data[0], n, data, first, store),
-        Short::Two(m, n, first) => add_two(h, len, at, data[0], m, n, data, first, store),
-        _ => add_read(h, len, at, data, false, store),
-    }
-}
-
-// Adds a packet to a sound collector, unless it is to be added strictly and its padding is dirty.
+// The same, unless it is to be added strictly and its padding is dirty.
 fn add_by(
-    h: Head,
-    len: &mut [u16],
-    at: usize,
-    data: &[u8],
-    self_delimited: bool,
-    strict: bool,
-    store: &mut [u8],
-) -> AddedHead
-    requires { ⌜ (length (now len) ≡ 48) × (framed (bare h (now len)) ≡ true) × (at ≡ total (heldLengths (bare h (now len))))
-        × (leastStore ≤ length (now store)) ⌝ }
-    ensures answer { λ r. ⌜ addedOf r (now (len .exit)) []
-        ≡ addPacketBy strict «self_delimited» (bare h (now (len .entry))) (now («data» .entry)) (now (store .entry)) .answer ⌝ }
-    ensures bytes { λ _. ⌜ now (store .exit)
-        ≡ addPacketBy strict «self_delimited» (bare h (now (len .entry))) (now («data» .entry)) (now (store .entry)) .store ⌝ }
-    ensures few { λ r. ⌜ r .count < 65536 ⌝ }
-{
-    if strict::asks_dirt(strict, data, self_delimited) {
-        return refused_add(strict::dirty_refusal(h, data), h);
-    }
-    add_packet(h, len, at, data, self_delimited, store)
-}
-
-// The same with the numbers: the new frames get that of the packet.
-fn add_numbered(
     h: Head,
     len: &mut [u16],
     packet: &mut [u8],
@@ -515,9 +471,43 @@ fn add_numbered(
         .store ⌝ }
     ensures few { λ r. ⌜ r .count < 65536 ⌝ }
 {
-    let a = add_by(h, len, at, data, self_delimited, strict, store);
-    packet_numbers::put_numbers(packet, wide(h.nb_frames), a.count);
-    a
+    if strict::asks_dirt(strict, data, self_delimited) {
+        return refused_add(strict::dirty_refusal(h, data), h);
+    }
+    add_read(h, len, packet, at, data, self_delimited, store)
+}
+
+// Adds a packet to a sound collector: an ordinary one of code 0, 1 or 2, which has no padding, without an array for its lengths. One that breaks a rule,
+// or is over 65,535 bytes long, is left to `add_by` to refuse, so that this way has no refusal to carry.
+fn add_packet(
+    h: Head,
+    len: &mut [u16],
+    packet: &mut [u8],
+    at: usize,
+    data: &[u8],
+    self_delimited: bool,
+    strict: bool,
+    store: &mut [u8],
+) -> AddedHead
+    requires { ⌜ (length (now len) ≡ 48) × (length (now packet) ≡ 48) × (sound (collectorOf h (now len) (now packet)) ≡ true)
+        × (at ≡ total (heldLengths (collectorOf h (now len) (now packet)))) × (leastStore ≤ length (now store)) ⌝ }
+    ensures answer { λ r. ⌜ addedOf r (now (len .exit)) (now (packet .exit))
+        ≡ addPacketBy strict «self_delimited» (collectorOf h (now (len .entry)) (now (packet .entry))) (now («data» .entry)) (now (store .entry))
+        .answer ⌝ }
+    ensures bytes { λ _. ⌜ now (store .exit)
+        ≡ addPacketBy strict «self_delimited» (collectorOf h (now (len .entry)) (now (packet .entry))) (now («data» .entry)) (now (store .entry))
+        .store ⌝ }
+    ensures few { λ r. ⌜ r .count < 65536 ⌝ }
+{
+    if self_delimited {
+        return add_by(h, len, packet, at, data, true, strict, store);
+    }
+    let s = opus::short_at(data);
+    match s {
+        Short::One(n, first) => add_one(h, len, packet, at, data[0], n, data, first, store),
+        Short::Two(m, n, first) => add_two(h, len, packet, at, data[0], m, n, data, first, store),
+        _ => add_by(h, len, packet, at, data, false, strict, store),
+    }
 }
 
 // Adds a packet in the named delimiting, strictly or not, to the collector with this head, these lengths and these numbers.
@@ -544,7 +534,7 @@ pub fn add(
     if store.len() < LEAST_STORE {
         return refused_add(Refusal::BadArg, h);
     }
-    add_numbered(h, len, packet, c.total, data, self_delimited, strict, store)
+    add_packet(h, len, packet, c.total, data, self_delimited, strict, store)
 }
 
 // Adds a packet in the named delimiting, strictly or not, to the collector, whose frames stand in the store.

@@ -43,8 +43,8 @@ returns-2 c =
     let a = entry k .args in
     refused-as (by-tight (a .strict) (a .self-delimited) (taken k) (a .«data» .now) (a .store .now) (is i) (c .before .if2 .taken)) (c .refused-add2 .ensures)
 
-add-numbered-requires : tie.Need-add-numbered-requires
-add-numbered-requires c κs =
+add-packet-requires : tie.Need-add-packet-requires
+add-packet-requires c κs =
     let t = c .before .before .before in
     let i = t .before in
     let k = i .before .before in
@@ -60,7 +60,7 @@ returns-3 c =
     let i = t .before in
     let k = i .before .before in
     let a = entry k .args in
-    rw (by-sound (a .strict) (a .self-delimited) (taken k) (a .«data» .now) (a .store .now) (is i) (t .if2 .left)) (p .add-numbered .ensures)
+    rw (by-sound (a .strict) (a .self-delimited) (taken k) (a .«data» .now) (a .store .now) (is i) (t .if2 .left)) (p .add-packet .ensures)
 
 pub add-spec : {M : Type 1} → statement M
 add-spec =
@@ -71,6 +71,6 @@ add-spec =
     returns
     (λ c κs. search needs)
     returns-2
-    add-numbered-requires
+    add-packet-requires
     (λ c. search needs)
     returns-3)

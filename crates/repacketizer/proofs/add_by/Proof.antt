@@ -1,20 +1,20 @@
--- `repacketizer::add_by` meets its contract: dirty padding is refused where it is asked for, and all else is the ordinary add.
+-- `repacketizer::add_by` meets its contract: dirty padding is refused where it is asked for, and all else is read and added.
 -- Assumes nothing.
 use mathlib.Core.Path.{sym, _∙_}
 use borrow.Author.Needs.{needs}
-use Rattle.repacketizer.specs.Parts.{bare}
+use Rattle.repacketizer.specs.Parts.{collectorOf}
 use Rattle.repacketizer.proofs.Adds.{head-few, refused-as}
 use Rattle.repacketizer.proofs.StrictAdds.{by-dirt, by-no-dirt}
 use Rattle.repacketizer.proofs.add_by.Statement.{statement}
 use Rattle.repacketizer.proofs.add_by.Tie as tie
 
 abbrev entry : tie.After-asks-dirt → tie.Start
-entry c = c .before .before .before .before
+entry c = c .before .before .before .before .before
 
 dirty-refusal-requires : tie.Need-dirty-refusal-requires
 dirty-refusal-requires c κs =
     let s = entry (c .before) in
-    head-few (s .args .h) (s .args .len .now) (search needs) (s .pre .0) (s .pre .1)
+    head-few (s .args .h) (s .args .len .now) (s .args .packet .now) (search needs) (s .pre .0) (s .pre .2)
 
 returns : tie.Need-returns
 returns c =
@@ -23,19 +23,19 @@ returns c =
     let d = t .before in
     let a = entry d .args in
     refused-as
-    (by-dirt (a .strict) (a .self-delimited) (a .h) (a .len .now) (a .«data» .now) (a .store .now) (sym (d .asks-dirt .ensures) ∙ t .if1 .taken)
-    (r .dirty-refusal .ensures))
+    (by-dirt (a .strict) (a .self-delimited) (a .h) (a .len .now) (a .packet .now) (a .«data» .now) (a .store .now)
+    (sym (d .asks-dirt .ensures) ∙ t .if1 .taken) (r .dirty-refusal .ensures))
     (c .refused-add .ensures)
 
 returns-2 : tie.Need-returns-2
 returns-2 c =
-    let b = c .before .before .before .before in
-    let t = b .before .before .before in
+    let b = c .before .before .before .before .before .before in
+    let t = b .before .before .before .before in
     let d = t .before in
     let a = entry d .args in
-    rw (by-no-dirt (a .strict) (a .self-delimited) (bare (a .h) (a .len .now)) (a .«data» .now) (a .store .now)
-    (sym (d .asks-dirt .ensures) ∙ t .if1 .left))
-    (b .add-packet .ensures)
+    rw (by-no-dirt (a .strict) (a .self-delimited) (collectorOf (a .h) (a .len .now) (a .packet .now)) (a .«data» .now)
+    (a .store .now) (sym (d .asks-dirt .ensures) ∙ t .if1 .left))
+    (b .add-read .ensures)
 
 pub add-by-spec : {M : Type 1} → statement M
 add-by-spec =
@@ -46,6 +46,7 @@ add-by-spec =
     (λ c κs. search needs)
     returns
     (λ c κs. search needs)
+    (λ c. search needs)
     (λ c. search needs)
     (λ c. search needs)
     returns-2)

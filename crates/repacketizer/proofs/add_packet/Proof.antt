@@ -1,4 +1,4 @@
--- `repacketizer::add_packet` meets its contract: what was read of one frame or two is added, and any other packet is read whole.
+-- `repacketizer::add_packet` meets its contract: what was read of one frame or two is added, and any other packet is asked for dirt and read whole.
 -- Assumes nothing.
 use mathlib.Core.Bool.{false}
 use mathlib.Core.List.{[], _∷_}
@@ -6,18 +6,19 @@ use native.Mathlib.Omega.{arith}
 use borrow.Author.Needs.{needs}
 use Rattle.laws.specs.Bytes.{Bytes}
 use Rattle.opus.proofs.AtShort.{ShortRead, one-read, two-read}
-use Rattle.repacketizer.specs.Parts.{bare}
+use Rattle.repacketizer.specs.Parts.{collectorOf}
 use Rattle.repacketizer.proofs.Adds.{add-read}
+use Rattle.repacketizer.proofs.StrictAdds.{by-uncounted}
 use Rattle.repacketizer.proofs.add_packet.Statement.{statement}
 use Rattle.repacketizer.proofs.add_packet.Tie as tie
 
 returns : tie.Need-returns
 returns c =
-    let r = c .before .before .before .before in
-    rw (r .before .before .before .if1 .taken) (r .add-read .ensures)
+    let r = c .before .before .before .before .before .before in
+    rw (r .before .before .before .before .if1 .taken) (r .add-by .ensures)
 
 -- the packet is a list of bytes
-bytes : (c : tie.After-shared-slice-known) → Bytes (c .before .before .args .«data» .now)
+bytes : (c : tie.After-shared-slice-known) → Bytes (c .before .before .before .args .«data» .now)
 bytes c = record { byte = λ i. c .shared-slice-known .given i .fits }
 
 -- where its bytes are known, and the entry
@@ -25,7 +26,7 @@ abbrev known : tie.After-short-at → tie.After-shared-slice-known
 known c = c .before .before .before
 
 abbrev entry : tie.After-short-at → tie.Start
-entry c = known c .before .before
+entry c = known c .before .before .before
 
 one : (c : tie.After-s)
     → let a = entry (c .before .before) .args in
@@ -36,23 +37,27 @@ one c =
 
 shared-slice-read-add-one : tie.Need-shared-slice-read-add-one
 shared-slice-read-add-one c =
-    let f = one (c .before .before .before) .known in
+    let f = one (c .before .before .before .before) .known in
     omega (arith, f .headed, f .block, f .within)
 
 add-one-requires : tie.Need-add-one-requires
 add-one-requires c κs =
-    let t = c .before .before .before .before in
+    let t = c .before .before .before .before .before in
     let f = one t .known in
     (entry (t .before .before) .pre, (f .small, omega (arith, f .block, f .within)))
 
 returns-2 : tie.Need-returns-2
 returns-2 c =
-    let b = c .before .before .before .before in
-    let t = b .before .before .before .before .before in
+    let b = c .before .before .before .before .before .before in
+    let t = b .before .before .before .before .before .before in
     let k = t .before .before in
     let a = entry k .args in
-    let rp = bare (a .h) (a .len .now) in
-    rw (k .before .if1 .left, add-read false rp (a .«data» .now) (a .store .now) _ _ _ (one t .taken) (bytes (known k)) (one t .short) (one t .means))
+    let rp = collectorOf (a .h) (a .len .now) (a .packet .now) in
+    rw (
+      k .before .if1 .left,
+      by-uncounted (a .strict) false rp (a .«data» .now) (a .store .now) (one t .uncounted),
+      add-read false rp (a .«data» .now) (a .store .now) _ _ _ (one t .taken) (bytes (known k)) (one t .short) (one t .means),
+    )
     (b .add-one .ensures)
 
 two : (c : tie.After-s2)
@@ -64,35 +69,40 @@ two c =
 
 shared-slice-read-add-two : tie.Need-shared-slice-read-add-two
 shared-slice-read-add-two c =
-    let f = two (c .before .before .before) .known in
+    let f = two (c .before .before .before .before) .known in
     omega (arith, f .headed, f .block, f .within)
 
 add-two-requires : tie.Need-add-two-requires
 add-two-requires c κs =
-    let t = c .before .before .before .before in
+    let t = c .before .before .before .before .before in
     let f = two t .known in
     (entry (t .before .before) .pre, (f .small, omega (arith, f .block, f .within)))
 
 returns-3 : tie.Need-returns-3
 returns-3 c =
-    let b = c .before .before .before .before in
-    let t = b .before .before .before .before .before in
+    let b = c .before .before .before .before .before .before in
+    let t = b .before .before .before .before .before .before in
     let k = t .before .before in
     let a = entry k .args in
-    let rp = bare (a .h) (a .len .now) in
-    rw (k .before .if1 .left, add-read false rp (a .«data» .now) (a .store .now) _ _ _ (two t .taken) (bytes (known k)) (two t .short) (two t .means))
+    let rp = collectorOf (a .h) (a .len .now) (a .packet .now) in
+    rw (
+      k .before .if1 .left,
+      by-uncounted (a .strict) false rp (a .«data» .now) (a .store .now) (two t .uncounted),
+      add-read false rp (a .«data» .now) (a .store .now) _ _ _ (two t .taken) (bytes (known k)) (two t .short) (two t .means),
+    )
     (b .add-two .ensures)
 
 returns-4 : tie.Need-returns-4
 returns-4 c =
-    let r = c .before .before .before .before in
-    rw (r .before .before .before .before .before .if1 .left) (r .add-read2 .ensures)
+    let r = c .before .before .before .before .before .before in
+    rw (r .before .before .before .before .before .before .if1 .left) (r .add-by2 .ensures)
 
 pub add-packet-spec : {M : Type 1} → statement M
 add-packet-spec =
     tie.close
     (tie.spec
     (λ c κs. search needs)
+    (λ c. search needs)
     (λ c. search needs)
     (λ c. search needs)
     returns
@@ -106,10 +116,13 @@ add-packet-spec =
     (λ c κs. search needs)
     (λ c. search needs)
     (λ c. search needs)
+    (λ c. search needs)
     returns-2
     (λ c. search needs)
     (λ c. search needs)
+    (λ c. search needs)
     returns-3
+    (λ c. search needs)
     (λ c. search needs)
     (λ c. search needs)
     returns-4)

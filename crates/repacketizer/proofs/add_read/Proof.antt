@@ -9,7 +9,7 @@ use Rattle.laws.specs.Bytes.{Bytes}
 use Rattle.opus_format.proofs.Facts.{facts}
 use Rattle.opus.proofs.Parsed.{Read, lengthsOf}
 use Rattle.opus.proofs.Lent.{packetWith}
-use Rattle.repacketizer.specs.Parts.{bare}
+use Rattle.repacketizer.specs.Parts.{collectorOf}
 use Rattle.repacketizer.proofs.Parsed.{lent-read, lent-refused}
 use Rattle.repacketizer.proofs.Adds.{head-few, add-long, add-read, why-refused, refused-as}
 use Rattle.repacketizer.proofs.add_read.Statement.{statement}
@@ -17,8 +17,8 @@ use Rattle.repacketizer.proofs.add_read.Tie as tie
 
 returns : tie.Need-returns
 returns c =
-    let a = c .before .before .before .before .before .args in
-    let rp = bare (a .h) (a .len .now) in
+    let a = c .before .before .before .before .before .before .args in
+    let rp = collectorOf (a .h) (a .len .now) (a .packet .now) in
     refused-as (add-long (a .self-delimited) rp (a .«data» .now) (a .store .now) (c .before .if1 .taken)) (c .refused-add .ensures)
 
 -- where the packet's bytes are known, and the entry
@@ -26,7 +26,7 @@ abbrev known : tie.After-read-into → tie.After-shared-slice-known
 known c = c .before .before .before .before
 
 abbrev entry : tie.After-read-into → tie.Start
-entry c = known c .before .before
+entry c = known c .before .before .before
 
 -- what was read of an accepted packet
 reading : (c : tie.After-enum-told)
@@ -39,14 +39,14 @@ reading c =
     lent-read (a .self-delimited) (a .«data» .now) (r .read-into .result) (r .read-into .last .1 .1 .0) (r .read-into .ensures) (c .enum-told .given .1)
 
 array-share-prefix-lengths : tie.Need-array-share-prefix-lengths
-array-share-prefix-lengths c = reading (c .before) .inside
+array-share-prefix-lengths c = reading (c .before .before) .inside
 
 slice-aggregate-add-block : tie.Need-slice-aggregate-add-block
-slice-aggregate-add-block c = sym (length-take-le _ _ (reading (c .before .before) .inside))
+slice-aggregate-add-block c = sym (length-take-le _ _ (reading (c .before .before .before) .inside))
 
 add-block-requires : tie.Need-add-block-requires
 add-block-requires c κs =
-    let t = c .before .before .before in
+    let t = c .before .before .before .before in
     let r = t .before .before in
     let k = known r in
     let s = entry r in
@@ -57,19 +57,19 @@ add-block-requires c κs =
 
 returns-2 : tie.Need-returns-2
 returns-2 c =
-    let b = c .before .before .before .before in
-    let t = b .before .before .before .before in
+    let b = c .before .before .before .before .before .before in
+    let t = b .before .before .before .before .before in
     let r = t .before .before in
     let a = entry r .args in
     let q = packetWith (r .read-into .result) (r .read-into .last .1 .1 .0) in
-    let rp = bare (a .h) (a .len .now) in
+    let rp = collectorOf (a .h) (a .len .now) (a .packet .now) in
     rw (add-read (a .self-delimited) rp (a .«data» .now) (a .store .now) (q .toc) (lengthsOf q) (q .first) (q .taken)
     (record { byte = λ i. known r .shared-slice-known .given i .fits }) (reading t .short) (reading t .means))
     (b .add-block .ensures)
 
 -- the frames held are at most 48
 few : (c : tie.Start) → c .args .h .«nb_frames» ≤ 48
-few c = head-few (c .args .h) (c .args .len .now) (search needs) (c .pre .0) (c .pre .1)
+few c = head-few (c .args .h) (c .args .len .now) (c .args .packet .now) (search needs) (c .pre .0) (c .pre .2)
 
 why-not-requires : tie.Need-why-not-requires
 why-not-requires c κs = few (entry (c .before .before .before))
@@ -81,10 +81,11 @@ returns-3 c =
     let a = entry r .args in
     let lent = r .read-into .last .1 .1 .0 in
     let short = r .before .before .if1 .left in
-    let rp = bare (a .h) (a .len .now) in
+    let rp = collectorOf (a .h) (a .len .now) (a .packet .now) in
     let refused =
     lent-refused (a .self-delimited) (a .«data» .now) (r .read-into .result) lent (r .read-into .ensures) short (v .v .given .1) rp (a .store .now) in
-    refused-as (why-refused (a .h) (a .len .now) (a .«data» .now) (a .store .now) _ (c .before .why-not .ensures) refused) (c .refused-add2 .ensures)
+    refused-as (why-refused (a .h) (a .len .now) (a .packet .now) (a .«data» .now) (a .store .now) _ (c .before .why-not .ensures) refused)
+    (c .refused-add2 .ensures)
 
 pub add-read-spec : {M : Type 1} → statement M
 add-read-spec =
@@ -98,6 +99,7 @@ add-read-spec =
     array-share-prefix-lengths
     slice-aggregate-add-block
     add-block-requires
+    (λ c. search needs)
     (λ c. search needs)
     (λ c. search needs)
     returns-2
