@@ -79,7 +79,7 @@ copied-under d at s from i m r fits =
     (sets-again (sets d at p) (at + i) q u)
 
 -- all but the first i of n elements are copied: a piece of the first k ends among them, or right before them
-pub copied-less : (d : List ℕ) (at : ℕ) (s : List ℕ) (from i k n : ℕ) {m d′ : List ℕ}
+copied-less : (d : List ℕ) (at : ℕ) (s : List ℕ) (from i k n : ℕ) {m d′ : List ℕ}
     → m ≡ copied d (at + i) s (from + i) (n - i) → d′ ≡ copied m at s from k
     → i ≤ k → k ≤ n → from + n ≤ length s → d′ ≡ copied d at s from n
 copied-less d at s from i k n em ed h h′ fits =
@@ -92,13 +92,13 @@ pub copied-none : (d : List ℕ) (at : ℕ) (s : List ℕ) (from n : ℕ) → n 
 copied-none d at s from n e = rw e
 
 -- downward, what is read is not yet written over
-pub moved-next : (s : List ℕ) (from to i k : ℕ) {m s′ : List ℕ} → m ≡ moved s from to i → s′ ≡ moved m (from + i) (to + i) k → to ≤ from
-    → from + (i + k) ≤ length s
-    → s′ ≡ moved s from to (i + k)
-moved-next s from to i k {m} em es h fits =
+pub moved-next : (s : List ℕ) (from to i k n : ℕ) {m s′ : List ℕ} → m ≡ moved s from to i → s′ ≡ moved m (from + i) (to + i) k
+    → n ≡ i + k → to ≤ from → from + n ≤ length s
+    → s′ ≡ moved s from to n
+moved-next s from to i k n {m} em es en h fits =
     let past : to + length (part s from i) ≤ from + i = omega (arith, length-part-le s from i) in
     let read : part m (from + i) k ≡ part s (from + i) k = rw em (part-past s to (part s from i) (from + i) k past) in
-    copied-more s to s from i i k (i + k) em (es ∙ ap (sets m (to + i)) read) (omega arith) (omega arith) refl fits
+    copied-more s to s from i i k n em (es ∙ ap (sets m (to + i)) read) (omega arith) (omega arith) en fits
 
 -- upward, from the last to the first: f, t and c are the places and the count after the turn, f⁺, t⁺ and c⁻ those before it
 pub moved-prev : (s : List ℕ) (f t c f⁺ t⁺ c⁻ k : ℕ) {m s′ : List ℕ} → m ≡ moved s f⁺ t⁺ c⁻ → s′ ≡ moved m f t k

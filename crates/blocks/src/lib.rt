@@ -1,7 +1,8 @@
 // Blocks of bytes copied and filled; block_moves moves them. Each contract is one equation on the whole buffer.
 //
-// Bytes are copied and moved in pieces of up to 64, each read whole into a buffer before any of it is written, so that the compiler makes wide
-// loads and stores of a piece whose width is a constant. A block's last piece may lie partly over the one before it.
+// Bytes are copied and moved in pieces, each read whole into a buffer before any of it is written. Of a piece whose width is a constant the compiler
+// makes wide loads and stores, of any other one call of memmove, and leaves the buffer out; where it does not, bench/run --stack shows it. A block of up
+// to 128 bytes is two pieces of one width, of which the last may lie partly over the first.
 
 ghost use mathlib.Core.Path.{_≡_};
 ghost use Prim.Native.Nat.{_+_, _≤_};
@@ -22,10 +23,10 @@ pub fn copy_bytes(dst: &mut [u8], at: usize, src: &[u8], from: usize, n: usize)
 
 // The same for a piece of k bytes.
 fn copy_piece(dst: &mut [u8], at: usize, src: &[u8], from: usize, k: usize)
-    requires { ⌜ (k ≤ 64) × (at + k ≤ length (now dst)) × (from + k ≤ length (now src)) ⌝ }
+    requires { ⌜ (k ≤ 65536) × (at + k ≤ length (now dst)) × (from + k ≤ length (now src)) ⌝ }
     ensures { λ _. ⌜ now (dst .exit) ≡ copied (now (dst .entry)) at (now (src .entry)) from k ⌝ }
 {
-    let mut piece = [0u8; 64];
+    let mut piece = [0u8; 65536];
     copy_bytes(&mut piece, 0, src, from, k);
     copy_bytes(dst, at, &piece, 0, k);
 }
@@ -74,20 +75,36 @@ pub fn fill(s: &mut [u8], from: usize, n: usize, value: u8)
     }
 }
 
-// Copies the n bytes of `src` at `from` to `dst` at `at`.
-pub fn copy_into(dst: &mut [u8], at: usize, src: &[u8], from: usize, n: usize)
-    requires { ⌜ (at + n ≤ length (now dst)) × (from + n ≤ length (now src)) ⌝ }
+// Copies n bytes, more than 128 of them in pieces of `most` and a last one.
+fn copy_pieces(dst: &mut [u8], at: usize, src: &[u8], from: usize, n: usize, most: usize)
+    requires { ⌜ (1 ≤ most) × (most ≤ 65536) × (at + n ≤ length (now dst)) × (from + n ≤ length (now src)) ⌝ }
     ensures { λ _. ⌜ now (dst .exit) ≡ copied (now (dst .entry)) at (now (src .entry)) from n ⌝ }
 {
     if n <= 128 {
         copy_short(dst, at, src, from, n);
         return;
     }
-    let end = n - 32;
     let mut i: usize = 0;
-    while i < end {
-        copy_piece(dst, at + i, src, from + i, 32);
-        i += 32;
+    while most < n - i {
+        copy_piece(dst, at + i, src, from + i, most);
+        i += most;
     }
-    copy_piece(dst, at + end, src, from + end, 32);
+    copy_piece(dst, at + i, src, from + i, n - i);
+}
+
+// Copies the n bytes of `src` at `from` to `dst` at `at`. A block of a packet, at most 65,535 bytes, is one piece.
+pub fn copy_into(dst: &mut [u8], at: usize, src: &[u8], from: usize, n: usize)
+    requires { ⌜ (at + n ≤ length (now dst)) × (from + n ≤ length (now src)) ⌝ }
+    ensures { λ _. ⌜ now (dst .exit) ≡ copied (now (dst .entry)) at (now (src .entry)) from n ⌝ }
+{
+    copy_pieces(dst, at, src, from, n, 65536);
+}
+
+// The same for one of many blocks that are copied one after the other out of memory. The pieces are short because glibc's memmove copies longer ones
+// from their end where both places lie alike in their pages, and then memory is read at a third of the speed.
+pub fn copy_run(dst: &mut [u8], at: usize, src: &[u8], from: usize, n: usize)
+    requires { ⌜ (at + n ≤ length (now dst)) × (from + n ≤ length (now src)) ⌝ }
+    ensures { λ _. ⌜ now (dst .exit) ≡ copied (now (dst .entry)) at (now (src .entry)) from n ⌝ }
+{
+    copy_pieces(dst, at, src, from, n, 256);
 }

@@ -73,7 +73,7 @@ fn put_record(
         if left - HEAD_BYTES < n {
             return 0;
         }
-        blocks::copy_into(dst, at, data, place, HEAD_BYTES + n);
+        blocks::copy_run(dst, at, data, place, HEAD_BYTES + n);
         return HEAD_BYTES + n;
     };
     put_head(dst, at, data[place + 2], k);
@@ -125,7 +125,7 @@ pub fn share_from(data: &[u8], start: usize, dst: &mut [u8], budget: usize) -> S
         let run = run_from(data, at, budget - written);
         let end = run.end;
         if run.records != 0 {
-            blocks::copy_into(dst, written, data, at, end - at);
+            blocks::copy_run(dst, written, data, at, end - at);
             written += end - at;
             records += run.records;
             at = end;

@@ -3,30 +3,28 @@
 use mathlib.Core.Path.{_≡_}
 use Prim.Native.Nat.{_+_, _≤_, _-_}
 use native.Mathlib.Omega.{arith}
-use lib.ListN.{length, replicate}
+use lib.ListN.{length}
 use borrow.Author.Needs.{needs}
 use Rattle.blocks.specs.Blocks.{moved}
-use Rattle.blocks.proofs.Pieces.{held, copied-more, moved-next}
+use Rattle.blocks.proofs.Pieces.{moved-next}
 use Rattle.block_moves.proofs.move_down.Statement.{statement}
 use Rattle.block_moves.proofs.move_down.Tie as tie
 
 abbrev Inv-loop : tie.InvT-loop
-Inv-loop s₀ from to n end last i₀ s i = (i ≤ n) × ((s ≡ moved s₀ from to i) × (length s ≡ length s₀))
+Inv-loop s₀ from to n i₀ s i = (i ≤ n) × ((s ≡ moved s₀ from to i) × (length s ≡ length s₀))
 
 abbrev μ-loop : tie.MeasureT-loop
-μ-loop s₀ from to n end last i₀ s i = n - i
-
-abbrev entry : tie.After-copy-bytes Inv-loop μ-loop → tie.Start Inv-loop μ-loop
-entry c = c .before .before .before .before .before
+μ-loop s₀ from to n i₀ s i = n - i
 
 loop-again : tie.Need-loop-again Inv-loop μ-loop
 loop-again c =
     let p = c .before .before in
     let l = p .before .before .before in
-    let a = entry (l .before .before) .args in (
+    let i = l .loop .i in
+    let a = l .before .before .before .args in (
       omega arith,
       (
-        moved-next (a .s .now) (a .from) (a .to) (l .loop .i) 32 (l .loop .inv .1 .0) (p .move-piece .ensures) (omega arith) (omega arith),
+        moved-next (a .s .now) (a .from) (a .to) i 2048 (i + 2048) (l .loop .inv .1 .0) (p .move-piece .ensures) (omega arith) (omega arith) (omega arith),
         omega (arith, p .move-piece .kept .0),
       ),
     )
@@ -34,15 +32,10 @@ loop-again c =
 returns-2 : tie.Need-returns-2 Inv-loop μ-loop
 returns-2 c =
     let p = c .before .before in
-    let l = p .before .before .before .before in
-    let read = l .before .before in
-    let a = entry read .args in
-    let end = a .n - 32 in
-    let last =
-    held (replicate 32 0) (l .loop .s) (a .to + end) (a .s .now) (a .from + end) 32 (read .copy-bytes .ensures) (p .copy-bytes2 .ensures)
-    (omega arith) (omega arith) in
-    copied-more (a .s .now) (a .to) (a .s .now) (a .from) (l .loop .i) end 32 (a .n) (l .loop .inv .1 .0) last (omega arith) (omega arith) (omega arith)
-    (omega arith)
+    let l = p .before .before .before in
+    let i = l .loop .i in
+    let a = l .before .before .before .args in
+    moved-next (a .s .now) (a .from) (a .to) i (a .n - i) (a .n) (l .loop .inv .1 .0) (p .move-piece2 .ensures) (omega arith) (omega arith) (omega arith)
 
 pub move-down-spec : {M : Type 1} → statement M
 move-down-spec =
@@ -53,17 +46,15 @@ move-down-spec =
     (λ c κs. omega arith)
     (λ c. omega arith)
     (λ c. search needs)
-    (λ c. omega arith)
-    (λ c. omega arith)
-    (λ c. omega arith)
-    (λ c κs. omega arith)
     (λ c. search needs)
+    (λ c. omega arith)
     (λ c. omega arith)
     (λ c. omega arith)
     (λ c κs. omega arith)
     (λ c. omega arith)
     (λ c. omega arith)
     loop-again
+    (λ c. omega arith)
     (λ c. omega arith)
     (λ c. omega arith)
     (λ c κs. omega arith)

@@ -12,7 +12,7 @@ returns c =
     let put = c .before .before in
     let read = put .before .before .before .before in
     let a = read .before .before .before .before .args in
-    held (replicate 64 0) (a .s .now) (a .to) (a .s .now) (a .from) (a .k) (read .copy-bytes .ensures) (put .copy-bytes2 .ensures)
+    held (replicate 2048 0) (a .s .now) (a .to) (a .s .now) (a .from) (a .k) (read .copy-bytes .ensures) (put .copy-bytes2 .ensures)
     (omega arith) (omega arith)
 
 pub move-piece-spec : {M : Type 1} → statement M

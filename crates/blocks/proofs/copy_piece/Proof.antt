@@ -12,7 +12,7 @@ returns c =
     let put = c .before .before in
     let read = put .before .before .before .before in
     let a = read .before .before .before .before .args in
-    held (replicate 64 0) (a .dst .now) (a .at) (a .src .now) (a .from) (a .k) (read .copy-bytes .ensures) (put .copy-bytes2 .ensures)
+    held (replicate 65536 0) (a .dst .now) (a .at) (a .src .now) (a .from) (a .k) (read .copy-bytes .ensures) (put .copy-bytes2 .ensures)
     (omega arith) (omega arith)
 
 pub copy-piece-spec : {M : Type 1} → statement M

@@ -65,15 +65,15 @@ part-spell-end c = omega (arith, ends (c .before))
 returns-2 : tie.Need-returns-2
 returns-2 c = too-long (spelt (c .before .before .before)) (c .before .enum-told .given .1) (c .if2 .taken)
 
-copy-into-requires : tie.Need-copy-into-requires
-copy-into-requires c κs =
+copy-run-requires : tie.Need-copy-run-requires
+copy-run-requires c κs =
     let t = c .before .before .before .before in
     (omega (arith, kept-length t, c .before .if2 .left, entry t .before .before .pre .0), omega (arith, ends (entry t)))
 
 returns-3 : tie.Need-returns-3
 returns-3 c =
     let f = c .before .before .before .before in
-    as-it-is (spelt (f .before .before .before)) (f .before .enum-told .given .1) (f .if2 .left) (c .before .before .copy-into .ensures)
+    as-it-is (spelt (f .before .before .before)) (f .before .enum-told .given .1) (f .if2 .left) (c .before .before .copy-run .ensures)
 
 -- where the compact packet was taken
 compact-few : (c : tie.After-s) → c .s .given .0 .0 ≤ 65535
@@ -119,7 +119,7 @@ put-record-spec =
     (λ c. search needs)
     returns-2
     (λ c. search needs)
-    copy-into-requires
+    copy-run-requires
     (λ c. search needs)
     (λ c. search needs)
     returns-3

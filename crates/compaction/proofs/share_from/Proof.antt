@@ -54,11 +54,11 @@ module _ (c : tie.After-run-from Inv-loop μ-loop) where
       × (r .end ≤ length (entry at-loop .args .«data» .now))
   bounds = let e = c .run-from .ensures in (e .1 .0, runs-move (e .0), e .1 .2)
 
-sub-copy-into : tie.Need-sub-copy-into Inv-loop μ-loop
-sub-copy-into c = omega (arith, bounds (c .before .before .before))
+sub-copy-run : tie.Need-sub-copy-run Inv-loop μ-loop
+sub-copy-run c = omega (arith, bounds (c .before .before .before))
 
-copy-into-requires : tie.Need-copy-into-requires Inv-loop μ-loop
-copy-into-requires c κs =
+copy-run-requires : tie.Need-copy-run-requires Inv-loop μ-loop
+copy-run-requires c κs =
     let r = c .before .before .before in
     (omega (arith, bounds r, roomy (r .before), r .before .loop .inv .room), omega (arith, bounds r))
 
@@ -83,7 +83,7 @@ loop-less c =
 loop-again : tie.Need-loop-again Inv-loop μ-loop
 loop-again c =
     let r = c .before .before .before .before .before .before .before in
-    run-done (known (r .before)) (r .before .loop .inv) (r .run-from .ensures .0) (bounds r .0) (c .before .before .before .copy-into .ensures)
+    run-done (known (r .before)) (r .before .loop .inv) (r .run-from .ensures .0) (bounds r .0) (c .before .before .before .copy-run .ensures)
 
 -- ---- a record
 module _ (c : tie.After-struct-known3 Inv-loop μ-loop) where
@@ -191,8 +191,8 @@ share-from-spec =
     loop-holds
     sub-run-from
     run-from-requires
-    sub-copy-into
-    copy-into-requires
+    sub-copy-run
+    copy-run-requires
     sub-written
     add-written
     add-records

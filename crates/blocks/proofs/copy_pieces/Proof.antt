@@ -1,4 +1,4 @@
--- `blocks::copy_into` meets its contract. The invariant of its loop: the first i bytes are copied. The measure is what is left of n.
+-- `blocks::copy_pieces` meets its contract. The invariant of its loop: the first i bytes are copied. The measure is what is left of n.
 -- Assumes nothing.
 use mathlib.Core.Path.{_≡_}
 use Prim.Native.Nat.{_+_, _≤_, _-_}
@@ -7,14 +7,14 @@ use lib.ListN.{length}
 use borrow.Author.Needs.{needs}
 use Rattle.blocks.specs.Blocks.{copied}
 use Rattle.blocks.proofs.Pieces.{copied-more}
-use Rattle.blocks.proofs.copy_into.Statement.{statement}
-use Rattle.blocks.proofs.copy_into.Tie as tie
+use Rattle.blocks.proofs.copy_pieces.Statement.{statement}
+use Rattle.blocks.proofs.copy_pieces.Tie as tie
 
 abbrev Inv-loop : tie.InvT-loop
-Inv-loop dst₀ at src from n end i₀ dst i = (i ≤ n) × ((dst ≡ copied dst₀ at src from i) × (length dst ≡ length dst₀))
+Inv-loop dst₀ at src from n most i₀ dst i = (i ≤ n) × ((dst ≡ copied dst₀ at src from i) × (length dst ≡ length dst₀))
 
 abbrev μ-loop : tie.MeasureT-loop
-μ-loop dst₀ at src from n end i₀ dst i = n - i
+μ-loop dst₀ at src from n most i₀ dst i = n - i
 
 loop-again : tie.Need-loop-again Inv-loop μ-loop
 loop-again c =
@@ -24,8 +24,8 @@ loop-again c =
     let a = l .before .before .before .before .args in (
       omega arith,
       (
-        copied-more (a .dst .now) (a .at) (a .src .now) (a .from) i i 32 (i + 32) (l .loop .inv .1 .0) (p .copy-piece .ensures) (omega arith) (omega arith)
-            (omega arith) (omega arith),
+        copied-more (a .dst .now) (a .at) (a .src .now) (a .from) i i (a .most) (i + a .most) (l .loop .inv .1 .0) (p .copy-piece .ensures) (omega arith)
+            (omega arith) (omega arith) (omega arith),
         omega (arith, p .copy-piece .kept .0),
       ),
     )
@@ -34,12 +34,13 @@ returns-2 : tie.Need-returns-2 Inv-loop μ-loop
 returns-2 c =
     let p = c .before .before in
     let l = p .before .before .before in
+    let i = l .loop .i in
     let a = l .before .before .before .before .args in
-    copied-more (a .dst .now) (a .at) (a .src .now) (a .from) (l .loop .i) (a .n - 32) 32 (a .n) (l .loop .inv .1 .0)
-    (p .copy-piece2 .ensures) (omega arith) (omega arith) (omega arith) (omega arith)
+    copied-more (a .dst .now) (a .at) (a .src .now) (a .from) i i (a .n - i) (a .n) (l .loop .inv .1 .0) (p .copy-piece2 .ensures) (omega arith)
+    (omega arith) (omega arith) (omega arith)
 
-pub copy-into-spec : {M : Type 1} → statement M
-copy-into-spec =
+pub copy-pieces-spec : {M : Type 1} → statement M
+copy-pieces-spec =
     tie.close
     (tie.spec
     Inv-loop
@@ -47,14 +48,15 @@ copy-into-spec =
     (λ c κs. omega arith)
     (λ c. omega arith)
     (λ c. search needs)
-    (λ c. omega arith)
     (λ c. search needs)
+    (λ c. omega arith)
     (λ c. omega arith)
     (λ c. omega arith)
     (λ c κs. omega arith)
     (λ c. omega arith)
     (λ c. omega arith)
     loop-again
+    (λ c. omega arith)
     (λ c. omega arith)
     (λ c. omega arith)
     (λ c κs. omega arith)
