@@ -1,2 +1,3 @@
 pub mod Numbering
+pub mod Lanes
 pub mod Examples

@@ -5,7 +5,7 @@ use mathlib.Core.Bool.{Bool, true, cond, _&&_, _||_}
 use lib.Dec.{leb, eqb}
 use lib.ListN.{getD}
 use Rattle.opus_size.specs.Size.{mostBytes}
-use Rattle.opus_format.specs.Frames.{longest}
+use Rattle.opus_format.specs.Frames.{total, longest}
 
 -- numbers that go on from k by 0 or 1
 abbrev pub steps : ℕ → List ℕ → Bool
@@ -32,3 +32,7 @@ jump before k = (k + (256 - before)) % 256
 -- lengths and numbers that frames of a sound collector can have
 abbrev pub keptWell : List ℕ → List ℕ → Bool
 keptWell ns ks = leb (longest ns) mostBytes && numbered ks
+
+-- the sum of the lengths, or 65,535 where a sound collector cannot have them
+abbrev pub told : List ℕ → List ℕ → ℕ
+told ns ks = cond (keptWell ns ks) (total ns) 65535

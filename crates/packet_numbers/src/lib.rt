@@ -7,6 +7,8 @@ ghost use lib.Seq.{sets};
 ghost use Rattle.opus_format.specs.Frames.{total};
 ghost use Rattle.packet_numbers.specs.Numbers.{numberAfter, excess, jump, keptWell};
 
+pub mod words;
+
 // What one pass over lengths and numbers finds: the sum of the lengths modulo 65,536, and a number that is above 1 exactly where they are not those of a
 // sound collector.
 pub struct Looked {

@@ -2,26 +2,29 @@
 --     headed                               a collector is its head, its lengths and its numbers
 --     checked-sound, checked-total         what was found
 --     held-.., none-checked, check-..      its tests as the code goes through them
+--     fits-.., told-..                     the tests of a head, and what is told by words
 -- Assumes nothing.
-use Prim.Native.Nat.{ℕ, _*_, _%_, _≤_, _<_}
+use Prim.Native.Nat.{ℕ, zero, suc, _*_, _%_, _≤_, _<_}
 use native.Mathlib.Omega.{arith}
-use mathlib.Core.Path.{_≡_, sym, _∙_}
-use mathlib.Core.Bool.{true, false}
-use lib.Dec.{leb}
+use mathlib.Core.Path.{_≡_, refl, sym, _∙_}
+use mathlib.Core.Bool.{Bool, true, false}
+use lib.Dec.{leb, eqb}
 use lib.ListN.{length, take}
-use mathlib.Core.List.{List}
-use borrow.Author.Tests.{leb-true, le-leb, lt-leb}
-use Rattle.laws.proofs.Every.{both-left}
+use mathlib.Core.List.{List, [], _∷_}
+use borrow.Author.Tests.{leb-true, le-leb, lt-leb, eqb-true, eqb-false, eq-eqb, ne-eqb}
+use Rattle.laws.proofs.Never.{by-test}
+use Rattle.laws.proofs.Every.{both-left, both-right}
 use Rattle.opus_size.specs.Size.{mostBytes}
 use Rattle.opus_toc.specs.Toc.{configuration, samples}
 use Rattle.opus_format.specs.Frames.{total, longest}
 use Rattle.opus_format.proofs.Counts.{lasts-few}
-use Rattle.packet_numbers.specs.Numbers.{numbered, keptWell}
+use Rattle.opus_format.proofs.Lengths.{total-most}
+use Rattle.packet_numbers.specs.Numbers.{numbered, keptWell, told}
 use Rattle.repacketizer.specs.declared.OpusRepacketizer.{OpusRepacketizer}
 use Rattle.repacketizer.specs.declared.Head.{Head}
 use Rattle.repacketizer.specs.declared.Checked.{Checked}
 use Rattle.repacketizer.specs.Collector.{heldLengths, sound}
-use Rattle.repacketizer.specs.Parts.{headOf, collectorOf, unsoundly, checkedHeld, checked}
+use Rattle.repacketizer.specs.Parts.{headOf, collectorOf, unsoundly, headFits, checkedHeld, checked}
 use Rattle.repacketizer.proofs.Counts.{sum-small}
 use Rattle.repacketizer.proofs.Sound.{timed-lasts, none-sound, wrong-size, wrong-time, right-time}
 
@@ -60,20 +63,59 @@ module _ (rp : OpusRepacketizer) where
   unfolding checked
   none-checked z = rw (none-sound rp z, z)
 
-  -- one that is not empty, with `each` for the frame size
-  module _ (z : rp .«nb_frames» ≡ 0 → ⊥) (each : ℕ) (e : each ≡ samples 8000 (configuration (rp .toc))) where
-    pub check-size : (rp .framesize .0 ≡ each → ⊥) → unsoundly ≡ checked rp
-    check-size w = unsound (wrong-size rp z each e w)
+  -- one that is not empty, by the tests of its head
+  module _ (z : rp .«nb_frames» ≡ 0 → ⊥) where
+    abbrev each : ℕ
+    each = samples 8000 (configuration (rp .toc))
 
-    module _ (f : rp .framesize .0 ≡ each) where
-      pub check-time : leb (rp .«nb_frames» * each) 960 ≡ false → unsoundly ≡ checked rp
-      check-time w = unsound (wrong-time rp z each e f w)
+    pub check-unfit : headFits (headOf rp) ≡ false → unsoundly ≡ checked rp
+    check-unfit w =
+        by-test (eqb (rp .framesize .0) each)
+        (λ t. let f = eqb-true (rp .framesize .0) each t in
+        let l : leb (rp .«nb_frames» * each) 960 ≡ false = rw (← f) (rw t at w) in
+        unsound (wrong-time rp z each refl f l))
+        (λ t. unsound (wrong-size rp z each refl (eqb-false (rp .framesize .0) each t)))
 
-      module _ (t : leb (rp .«nb_frames» * each) 960 ≡ true) where
-        -- the time shows that the count is within the arrays
-        pub check-few : rp .toc < 256 → rp .«nb_frames» ≤ 48
-        check-few b = lasts-few (timed-lasts b (omega arith) (record { size = e; time = t }))
+    module _ (t : headFits (headOf rp) ≡ true) where
+      size-is : rp .framesize .0 ≡ each
+      size-is = eqb-true (rp .framesize .0) each (both-left (eqb (rp .framesize .0) each) (leb (rp .«nb_frames» * rp .framesize .0) 960) t)
 
-        pub check-held : {n : ℕ} {c : Checked} → n ≡ rp .«nb_frames» → c ≡ checkedHeld (take n (rp .len)) (take n (rp .packet)) → c ≡ checked rp
-        unfolding checked
-        check-held a q = q ∙ rw (a, right-time rp z each e f t)
+      time-is : leb (rp .«nb_frames» * each) 960 ≡ true
+      time-is = rw (← size-is) (both-right (eqb (rp .framesize .0) each) (leb (rp .«nb_frames» * rp .framesize .0) 960) t)
+
+      -- the time shows that the count is within the arrays
+      pub check-few : rp .toc < 256 → rp .«nb_frames» ≤ 48
+      check-few b = lasts-few (timed-lasts b (omega arith) (record { size = refl; time = time-is }))
+
+      pub check-held : {n : ℕ} {c : Checked} → n ≡ rp .«nb_frames» → c ≡ checkedHeld (take n (rp .len)) (take n (rp .packet)) → c ≡ checked rp
+      unfolding checked
+      check-held a q = q ∙ rw (a, right-time rp z each refl size-is time-is)
+
+-- ---- the head by its tests
+module _ (h : Head) (each : ℕ) (e : each ≡ samples 8000 (configuration (h .toc))) where
+  pub fits-other : (h .framesize .0 ≡ each → ⊥) → false ≡ headFits h
+  fits-other n = rw (← e, ne-eqb (h .framesize .0) each n)
+
+  pub fits-time : h .framesize .0 ≡ each → {b : Bool} → b ≡ leb (h .«nb_frames» * each) 960 → b ≡ headFits h
+  fits-time f q = rw (← e, eq-eqb (h .framesize .0) each f, f) q
+
+-- ---- lengths and numbers that were told by words
+pub take-few : (n : ℕ) (l : List ℕ) → length (take n l) ≤ n
+take-few zero l = omega arith
+take-few (suc n) [] = omega arith
+take-few (suc n) (a ∷ l) = omega (arith, take-few n l)
+
+module _ (ns ks : List ℕ) (few : length ns ≤ 48) (t : ℕ) (e : t ≡ told ns ks) where
+  small-sum : keptWell ns ks ≡ true → total ns < 65535
+  small-sum w = omega (arith, total-most ns (leb-true (longest ns) mostBytes (both-left (leb (longest ns) mostBytes) (numbered ks) w)))
+
+  pub told-unsound : t ≡ 65535 → unsoundly ≡ checkedHeld ns ks
+  told-unsound q =
+      by-test (keptWell ns ks)
+      (λ w. let is : t ≡ total ns = rw w at e in absurd (omega (arith, is, q, small-sum w)))
+      (λ w. rw w)
+
+  pub told-sound : (t ≡ 65535 → ⊥) → record { sound = true; total = t } ≡ checkedHeld ns ks
+  told-sound n =
+      by-test (keptWell ns ks) (λ w. let is : t ≡ total ns = rw w at e in rw (w, is))
+      (λ w. let is : t ≡ 65535 = rw w at e in absurd (n is))

@@ -1,5 +1,5 @@
 -- What the inner functions answer, where a collector's lengths and numbers are lent beside the rest of it.
-use Prim.Native.Nat.{ℕ, _+_, _%_}
+use Prim.Native.Nat.{ℕ, _+_, _*_, _%_}
 use mathlib.Core.List.{List, []}
 use mathlib.Core.Bool.{Bool, true, false, cond, _&&_}
 use lib.Dec.{leb, eqb}
@@ -39,6 +39,10 @@ bare h len = collectorOf h len []
 
 abbrev pub unsoundly : Checked
 unsoundly = record { sound = false; total = 0 }
+
+-- the frame size is the TOC's at 8 kHz, and the frames last at most 120 ms
+abbrev pub headFits : Head → Bool
+headFits h = eqb (h .framesize .0) (samples 8000 (configuration (h .toc))) && leb (h .«nb_frames» * h .framesize .0) 960
 
 -- lengths and numbers of frames: whether a sound collector can have them, and the sum of the lengths
 abbrev pub checkedHeld : List ℕ → List ℕ → Checked

@@ -15,7 +15,8 @@ ghost use Rattle.opus_format.specs.Reading.{lasts};
 ghost use Rattle.opus_format.specs.Frames.{total, longest};
 ghost use Rattle.repacketizer.specs.Collector.{empty, heldLengths, framed, sound, nbFramesHeld, leastStore};
 ghost use Rattle.repacketizer.specs.Adding.{goesWith, saidFrames, staysOut, addPacket, added, addedBy};
-ghost use Rattle.repacketizer.specs.Parts.{measured, headOf, collectorOf, bare, unsoundly, checkedHeld, checked, refusedHead, moreFrames};
+ghost use Rattle.repacketizer.specs.Parts.{measured, headOf, collectorOf, bare, unsoundly, headFits, checkedHeld, checked, refusedHead};
+ghost use Rattle.repacketizer.specs.Parts.{moreFrames};
 ghost use Rattle.repacketizer.specs.Parts.{addBlock, whyNot, addPacketBy, addedOf};
 use opus::Short;
 use opus_defines::Answer;
@@ -135,27 +136,57 @@ fn check_held(ns: &[u16], ks: &[u8]) -> Checked
     }
 }
 
+// Whether the frame size of a head is its TOC byte's and its frames last at most 120 ms.
+fn head_fits(h: Head) -> bool
+    ensures { λ r. ⌜ r ≡ headFits h ⌝ }
+{
+    let framesize = h.framesize;
+    let each = opus_toc::samples_8k(h.toc);
+    if framesize.0 != each.0 {
+        return false;
+    }
+    each.fits(h.nb_frames)
+}
+
 pub fn check(h: Head, len: &[u16], packet: &[u8]) -> Checked
     requires { ⌜ (length (now len) ≡ 48) × (length (now packet) ≡ 48) ⌝ }
     ensures { λ r. ⌜ r ≡ checked (collectorOf h (now (len .entry)) (now (packet .entry))) ⌝ }
 {
-    let count = h.nb_frames;
-    if count == 0 {
+    let n = wide(h.nb_frames);
+    if n == 0 {
         return Checked {
             sound: true,
             total: 0,
         };
     }
-    let framesize = h.framesize;
-    let each = opus_toc::samples_8k(h.toc);
-    if framesize.0 != each.0 {
+    if !head_fits(h) {
         return unsound();
     }
-    if !each.fits(count) {
-        return unsound();
-    }
-    let n = wide(count);
     check_held(&len[..n], &packet[..n])
+}
+
+// The same for an add, which has much to look at once many frames are held: by words (packet_numbers). It is called from one place, and so compiled into it.
+fn check_words(h: Head, len: &[u16; 48], packet: &[u8; 48]) -> Checked
+    ensures { λ r. ⌜ r ≡ checked (collectorOf h (now (len .entry)) (now (packet .entry))) ⌝ }
+{
+    let n = wide(h.nb_frames);
+    if n == 0 {
+        return Checked {
+            sound: true,
+            total: 0,
+        };
+    }
+    if !head_fits(h) {
+        return unsound();
+    }
+    let t = packet_numbers::words::tell(len, packet, n);
+    if t == packet_numbers::words::NOT_SOUND {
+        return unsound();
+    }
+    Checked {
+        sound: true,
+        total: t,
+    }
 }
 
 // Whether a collector, however wild, is sound.
@@ -527,7 +558,7 @@ pub fn add(
         ≡ addedBy strict «self_delimited» (collectorOf h (now (len .entry)) (now (packet .entry))) (now («data» .entry)) (now (store .entry)) .store ⌝ }
     ensures few { λ r. ⌜ r .count < 65536 ⌝ }
 {
-    let c = check(h, &len[..], &packet[..]);
+    let c = check_words(h, len, packet);
     if !c.sound {
         return refused_add(Refusal::InvalidState, h);
     }

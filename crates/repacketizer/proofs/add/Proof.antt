@@ -14,16 +14,16 @@ use Rattle.repacketizer.proofs.StrictAdds.{by-unsound, by-tight, by-sou
 use Rattle.repacketizer.proofs.add.Statement.{statement}
 use Rattle.repacketizer.proofs.add.Tie as tie
 
-abbrev entry : tie.After-check → tie.Start
-entry c = let k = c .before .before .before in k .before .before .before .before
+abbrev entry : tie.After-check-words → tie.Start
+entry c = c .before .before .before .before .before
 
 -- the collector of which the code has the head, the lengths and the numbers
-abbrev taken : tie.After-check → OpusRepacketizer
+abbrev taken : tie.After-check-words → OpusRepacketizer
 taken c = let a = entry c .args in collectorOf (a .h) (a .len .now) (a .packet .now)
 
 -- what was found of it
-found : (c : tie.After-check) → c .check .result .sound ≡ sound (taken c)
-found c = checked-sound (taken c) (c .check .result) (c .check .ensures)
+found : (c : tie.After-check-words) → c .check-words .result .sound ≡ sound (taken c)
+found c = checked-sound (taken c) (c .check-words .result) (c .check-words .ensures)
 
 returns : tie.Need-returns
 returns c =
@@ -51,7 +51,7 @@ add-packet-requires c κs =
     let s = entry k in
     let l : length (s .args .len .now) ≡ 48 = search needs in
     let p : length (s .args .packet .now) ≡ 48 = search needs in
-    (l, p, is i, checked-total (taken k) (k .check .result) (k .check .ensures) (is i), t .if2 .left)
+    (l, p, is i, checked-total (taken k) (k .check-words .result) (k .check-words .ensures) (is i), t .if2 .left)
 
 returns-3 : tie.Need-returns-3
 returns-3 c =

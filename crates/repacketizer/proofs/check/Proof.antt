@@ -1,111 +1,96 @@
 -- `repacketizer::check` meets its contract: by the tests of the code.
 -- Assumes nothing.
 use Prim.Native.Nat.{_≤_, _<_}
-use mathlib.Core.Path.{sym, _∙_}
+use mathlib.Core.Path.{_≡_, sym, _∙_}
+use mathlib.Core.Bool.{true}
 use native.Mathlib.Omega.{arith}
 use borrow.Author.Needs.{needs}
 use borrow.Author.Tests.{not-true, not-false}
 use lib.Seq.{length-take-le}
-use Rattle.repacketizer.specs.Parts.{collectorOf}
-use Rattle.repacketizer.proofs.Checks.{none-checked, check-size, check-time, check-few, check-held}
+use Rattle.repacketizer.specs.declared.OpusRepacketizer.{OpusRepacketizer}
+use Rattle.repacketizer.specs.Parts.{headOf, collectorOf, headFits}
+use Rattle.repacketizer.proofs.Checks.{none-checked, check-unfit, check-few, check-held}
 use Rattle.repacketizer.proofs.check.Statement.{statement}
 use Rattle.repacketizer.proofs.check.Tie as tie
 
+abbrev entry : tie.After-wide → tie.Start
+entry c = c .before .before .before
+
+-- the collector of which the code has the head, the lengths and the numbers
+abbrev taken : tie.After-wide → OpusRepacketizer
+taken c = let a = entry c .args in collectorOf (a .h) (a .len .now) (a .packet .now)
+
 returns : tie.Need-returns
 returns c =
-    let a = c .before .before .before .args in
-    none-checked (collectorOf (a .h) (a .len .now) (a .packet .now)) (c .if1 .taken)
+    let w = c .before in
+    none-checked (taken w) (sym (w .wide .ensures .0) ∙ c .if1 .taken)
 
-abbrev first : tie.After-samples-8k → tie.Else1
-first c = c .before .before
-
-abbrev entry : tie.Else1 → tie.Start
-entry c = c .before .before .before
+-- where it was found not to be empty
+abbrev some : tie.Else1 → tie.After-wide
+some c = c .before
 
 returns-2 : tie.Need-returns-2
 returns-2 c =
-    let b = c .before .before .before .before in
-    let i = first b in
-    let a = entry i .args in
-    c .unsound .ensures ∙ check-size (collectorOf (a .h) (a .len .now) (a .packet .now)) (i .if1 .left) (b .samples-8k .result .0) (b .samples-8k .ensures)
-    (c .before .if2 .taken)
-
-returns-3 : tie.Need-returns-3
-returns-3 c =
     let f = c .before .before in
-    let g = f .before in
-    let b = g .before .before .before in
-    let i = first b in
-    let a = entry i .args in
-    c .unsound2 .ensures ∙ check-time (collectorOf (a .h) (a .len .now) (a .packet .now)) (i .if1 .left) (b .samples-8k .result .0)
-    (b .samples-8k .ensures) (g .if2 .left) (sym (f .fits2 .ensures) ∙ not-true _ (c .before .if3 .taken))
+    let i = f .before in
+    let w = some i in
+    c .unsound .ensures ∙ check-unfit (taken w) (λ z. i .if1 .left (w .wide .ensures .0 ∙ z)) (sym (f .head-fits .ensures) ∙ not-true _ (c .before .if2 .taken))
 
--- where the tests of the head have passed: the test of the time, that of the size, the frame size, and the entry
-abbrev timed : tie.Else3 → tie.After-fits2
-timed c = c .before
+-- where the tests of the head have passed
+abbrev passed : tie.Else2 → tie.Else1
+passed c = c .before .before
 
-abbrev sized : tie.Else3 → tie.Else2
-sized c = timed c .before
-
-abbrev size : tie.Else3 → tie.After-samples-8k
-size c = sized c .before .before .before
-
-abbrev start : tie.Else3 → tie.Start
-start c = entry (first (size c))
+fits : (c : tie.Else2) → headFits (headOf (taken (some (passed c)))) ≡ true
+fits c = sym (c .before .head-fits .ensures) ∙ not-false _ (c .if2 .left)
 
 byte : (c : tie.Start) → c .args .h .toc < 256
 byte c = search needs
 
-few : (c : tie.Else3) → start c .args .h .«nb_frames» ≤ 48
+few : (c : tie.Else2) → some (passed c) .wide .result ≤ 48
 few c =
-    let s = start c in
-    let b = size c in
-    check-few (collectorOf (s .args .h) (s .args .len .now) (s .args .packet .now)) (first b .if1 .left) (b .samples-8k .result .0) (b .samples-8k .ensures)
-    (sized c .if2 .left) (sym (timed c .fits2 .ensures) ∙ not-false _ (c .if3 .left)) (byte s)
+    let i = passed c in
+    let w = some i in
+    omega (arith, w .wide .ensures .0, check-few (taken w) (λ z. i .if1 .left (w .wide .ensures .0 ∙ z)) (fits c) (byte (entry w)))
 
 slice-aggregate-check-held : tie.Need-slice-aggregate-check-held
 slice-aggregate-check-held c =
-    let w = c .before in
-    let s = start (w .before) in
-    sym (length-take-le (w .wide .result) (s .args .len .now) (omega (arith, w .wide .ensures .0, few (w .before), s .pre .0)))
+    let t = c .before in
+    let s = entry (some (passed t)) in
+    sym (length-take-le _ (s .args .len .now) (omega (arith, few t, s .pre .0)))
 
 slice-aggregate-check-held-2 : tie.Need-slice-aggregate-check-held-2
 slice-aggregate-check-held-2 c =
-    let w = c .before .before in
-    let s = start (w .before) in
-    sym (length-take-le (w .wide .result) (s .args .packet .now) (omega (arith, w .wide .ensures .0, few (w .before), s .pre .1)))
+    let t = c .before .before in
+    let s = entry (some (passed t)) in
+    sym (length-take-le _ (s .args .packet .now) (omega (arith, few t, s .pre .1)))
 
 check-held-requires : tie.Need-check-held-requires
 check-held-requires c κs =
-    let w = c .before .before in
-    let s = start (w .before) in
-    let n = w .wide .ensures .0 in
-    let l = length-take-le (w .wide .result) (s .args .len .now) (omega (arith, n, few (w .before), s .pre .0)) in
-    let k = length-take-le (w .wide .result) (s .args .packet .now) (omega (arith, n, few (w .before), s .pre .1)) in
-    (omega (arith, l, n, first (size (w .before)) .if1 .left), omega (arith, l, n, few (w .before)), k ∙ sym l)
+    let t = c .before .before in
+    let i = passed t in
+    let w = some i in
+    let s = entry w in
+    let l = length-take-le (w .wide .result) (s .args .len .now) (omega (arith, few t, s .pre .0)) in
+    let k = length-take-le (w .wide .result) (s .args .packet .now) (omega (arith, few t, s .pre .1)) in
+    (omega (arith, l, i .if1 .left), omega (arith, l, few t), k ∙ sym l)
 
-returns-4 : tie.Need-returns-4
-returns-4 c =
-    let w = c .before .before .before in
-    let t = w .before in
-    let s = start t in
-    let b = size t in
-    check-held (collectorOf (s .args .h) (s .args .len .now) (s .args .packet .now)) (first b .if1 .left) (b .samples-8k .result .0)
-    (b .samples-8k .ensures) (sized t .if2 .left) (sym (timed t .fits2 .ensures) ∙ not-false _ (t .if3 .left)) (w .wide .ensures .0) (c .check-held .ensures)
+returns-3 : tie.Need-returns-3
+returns-3 c =
+    let t = c .before .before .before in
+    let i = passed t in
+    let w = some i in
+    check-held (taken w) (λ z. i .if1 .left (w .wide .ensures .0 ∙ z)) (fits t) (w .wide .ensures .0) (c .check-held .ensures)
 
 pub check-spec : {M : Type 1} → statement M
 check-spec =
     tie.close
     (tie.spec
+    (λ c κs. search needs)
     returns
     (λ c κs. search needs)
     (λ c κs. search needs)
     returns-2
-    (λ c κs. search needs)
-    (λ c κs. search needs)
-    returns-3
-    (λ c κs. search needs)
     slice-aggregate-check-held
     slice-aggregate-check-held-2
     check-held-requires
-    returns-4)
+    returns-3)
