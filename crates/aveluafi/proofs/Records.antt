@@ -5,6 +5,7 @@
 --     size-number, packet-number   the number of a record is the one of the core's answer
 --     read-few, record-read, ..    a packet that was read, by its verdict
 --     one-record, two-record       a packet of one frame or two that was read without an array
+--     same-record                  one of frames that are equally long
 --     long-record, broken-record   a packet that is too long, or breaks a rule
 --     record-found                 a record of a capture
 --     share-made                   a share of compaction
@@ -17,7 +18,7 @@ use mathlib.Core.List.{List, [], _∷_}
 use mathlib.Core.Bool.{Bool, false}
 use lib.Dec.{ltb, eqb}
 use lib.IntN.{ℤ, pos}
-use lib.ListN.{length, getD, set, length-append}
+use lib.ListN.{length, getD, set, replicate, length-append, length-replicate}
 use mir.Syntax.{w32}
 use mir.Val.{toZ, ofZ, SFits}
 use mir.ValLaws.{toZ-ofZ}
@@ -44,6 +45,7 @@ use Rattle.opus.specs.declared.Packet.{Packet}
 use Rattle.opus.specs.declared.PacketHead.{PacketHead}
 use Rattle.opus.proofs.AtPacket.{parse-long, parse-read}
 use Rattle.opus.proofs.AtShort.{ShortRead}
+use Rattle.opus.proofs.AtEqual.{EqualRead}
 use Rattle.opus.proofs.Lent.{lent-accepted}
 use Rattle.opus_format.proofs.Facts.{facts}
 use Rattle.capture.specs.declared.NextRecord.{NextRecord}
@@ -103,6 +105,11 @@ module _ (p : List ℕ) where
       → record { report = r; lengths = set (set (padded48 []) 0 m) 1 n; toc = getD p 0 0; «payload_offset» = first; «packet_offset» = length p }
       ≡ packetRecord (parsed false p)
   two-record m n first s e = read-record (m ∷ n ∷ []) first s e
+
+  pub same-record : length p ≤ 65535 → (n each first : ℕ) → EqualRead p n each first → {r : Report} {l : List ℕ} → r ≡ plain (pos n)
+      → l ≡ padded48 (replicate n each)
+      → record { report = r; lengths = l; toc = getD p 0 0; «payload_offset» = first; «packet_offset» = length p } ≡ packetRecord (parsed false p)
+  same-record h n each first s e q = rw (← parse-read false p h, s .means, e, q, length-replicate n each)
 
   pub long-record : 65535 < length p → packetRecord (noPacket BadArg) ≡ packetRecord (parsed false p)
   long-record h = ap packetRecord (parse-long false p h)

@@ -9,6 +9,7 @@ ghost use Rattle.opus.specs.Answers.{noPacket, parsed};
 ghost use Rattle.aveluafi.specs.Records.{sizeRecord, packetRecord, wholeRecord};
 use opus::PacketHead;
 use opus::Short;
+use opus::code_3::Equal;
 use opus_defines::Answer;
 use opus_defines::Refusal;
 use opus_defines::Report;
@@ -122,8 +123,8 @@ pub extern "C" fn aveluafi_packet_parse_impl(data: &[u8], self_delimited: bool) 
     no_packet(e)
 }
 
-// The ordinary packet. One or two frames of code 0, 1 or 2 are read without an array, and each way returns by itself: where ways meet, the record is
-// copied once more.
+// The ordinary packet. One or two frames of code 0, 1 or 2, and equally long ones of code 3, are read without an array, and each way returns by itself:
+// where ways meet, the record is copied once more.
 #[no_mangle]
 pub extern "C" fn aveluafi_packet_parse(data: &[u8]) -> AveluafiPacket
     ensures { λ r. ⌜ r ≡ packetRecord (parsed false (now («data» .entry))) ⌝ }
@@ -160,6 +161,27 @@ pub extern "C" fn aveluafi_packet_parse(data: &[u8]) -> AveluafiPacket
             return no_packet(opus_defines::rule_refusal(rule, place));
         }
         Short::Counted => {}
+    }
+    if opus::MOST_PACKET < data.len() {
+        return no_packet(Refusal::BadArg);
+    }
+    let e = opus::code_3::equal_at(data);
+    match e {
+        Equal::Same(n, each, first) => {
+            let mut lengths = [0u16; 48];
+            opus_parts::sizes_at::same_lengths(opus_defines::wide(n), each, &mut lengths);
+            return AveluafiPacket {
+                report: opus_defines::report_of(Answer::Number(n)),
+                lengths,
+                toc: data[0],
+                payload_offset: first,
+                packet_offset: data.len(),
+            };
+        }
+        Equal::Wrong(rule, place) => {
+            return no_packet(opus_defines::rule_refusal(rule, place));
+        }
+        Equal::Other => {}
     }
     let mut lengths = [0u16; 48];
     let p = opus::read_into(data, false, &mut lengths);

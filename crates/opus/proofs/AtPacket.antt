@@ -130,15 +130,14 @@ pub rule-unequal : (v : ℕ) → (v ≡ 0 → ⊥) → R7 ≡ sizeRule v
 rule-unequal zero n = absurd (n refl)
 rule-unequal (suc v) n = refl
 
-frames-equal : (sd : Bool) (v count : ℕ) (s : List ℕ) → v ≡ 0 → frames3 sd v count s ≡ equal sd R6 count s
+pub frames-equal : (sd : Bool) (v count : ℕ) (s : List ℕ) → v ≡ 0 → frames3 sd v count s ≡ equal sd R6 count s
 frames-equal sd v count s e = rw e
 
 frames-unequal : (sd : Bool) (v count : ℕ) (s : List ℕ) → (v ≡ 0 → ⊥) → frames3 sd v count s ≡ unequal sd R7 (count - 1) s
 frames-unequal sd zero count s n = absurd (n refl)
 frames-unequal sd (suc v) count s n = refl
 
-unfit-refused : (sd : Bool) (k m toc v count : ℕ) (f : Field) → paddingAt k f ≡ Unfit
-    → noPacket (ruleRefusal (sizeRule v) 2) ≡ packetOf (behindPadding sd m toc v count f)
+unfit-refused : (sd : Bool) (k m toc v count : ℕ) (f : Field) → paddingAt k f ≡ Unfit → refused (sizeRule v) 2 ≡ behindPadding sd m toc v count f
 unfit-refused sd k m toc v count noField e = refl
 unfit-refused sd k m toc v count (field pad t) e = by-test (ltb (length t) pad) (λ b. rw b) (λ b. never (let q = rw b at e in cc))
 
@@ -146,19 +145,22 @@ unfit-refused sd k m toc v count (field pad t) e = by-test (ltb (length t) pad) 
 abbrev pub part : List ℕ → ℕ → ℕ → List ℕ
 part d a e = take (e - a) (drop a d)
 
-abbrev body : Bool → List ℕ → ℕ → Reading
+abbrev pub body : Bool → List ℕ → ℕ → Reading
 body sd d count = behindPadding sd (length d) (getD d 0 0) (getD d 1 0 / 128 % 2) count (readPadding (getD d 1 0 / 64 % 2) (drop 2 d))
 
 -- the padding of a slice that was lent from place 2 on
-abbrev padding : List ℕ → Field
+abbrev pub padding : List ℕ → Field
 padding d = readPadding (getD d 1 0 / 64 % 2) (part d 2 (length d))
 
 module _ (sd : Bool) (d : List ℕ) (count : ℕ) where
-  pub body-unfit : paddingAt (length (part d 2 (length d))) (padding d) ≡ Unfit
-      → noPacket (ruleRefusal (sizeRule (getD d 1 0 / 128 % 2)) 2) ≡ packetOf (body sd d count)
-  body-unfit e =
+  pub body-refused : paddingAt (length (part d 2 (length d))) (padding d) ≡ Unfit → refused (sizeRule (getD d 1 0 / 128 % 2)) 2 ≡ body sd d count
+  body-refused e =
       unfit-refused sd (length (drop 2 d)) (length d) (getD d 0 0) (getD d 1 0 / 128 % 2) count (readPadding (getD d 1 0 / 64 % 2) (drop 2 d))
       (rw (part-to-end d 2) at e)
+
+  pub body-unfit : paddingAt (length (part d 2 (length d))) (padding d) ≡ Unfit
+      → noPacket (ruleRefusal (sizeRule (getD d 1 0 / 128 % 2)) 2) ≡ packetOf (body sd d count)
+  body-unfit e = ap packetOf (body-refused e)
 
   module _ (h : 2 ≤ length d) (pad next : ℕ) (e : paddingAt (length (part d 2 (length d))) (padding d) ≡ Whole pad next) where
     was : Padded (getD d 1 0 / 64 % 2) (drop 2 d) pad next
@@ -168,19 +170,19 @@ module _ (sd : Bool) (d : List ℕ) (count : ℕ) where
     body-room = omega (arith, was .room, length-drop 2 d)
 
     -- the frames lie between the padding lengths and the padding
-    inner : List ℕ
+    pub inner : List ℕ
     inner = part d (2 + next) (length d - pad)
 
-    all-bytes : length d ≡ 2 + next + length inner + pad
+    pub all-bytes : length d ≡ 2 + next + length inner + pad
     unfolding inner
     all-bytes =
         let l : length inner ≡ length d - pad - (2 + next) =
         length-take-le (length d - pad - (2 + next)) (drop (2 + next) d) (omega (arith, body-room, length-drop (2 + next) d)) in
         omega (arith, body-room)
 
-    reads : body sd d count ≡ accept (length d) (getD d 0 0) pad (frames3 sd (getD d 1 0 / 128 % 2) count inner)
+    pub body-reads : body sd d count ≡ accept (length d) (getD d 0 0) pad (frames3 sd (getD d 1 0 / 128 % 2) count inner)
     unfolding inner
-    reads =
+    body-reads =
         let left : length (drop (2 + next) d) - pad ≡ length d - pad - (2 + next) = omega (arith, length-drop (2 + next) d) in
         let enough : ltb (length (drop (2 + next) d)) pad ≡ false =
         le-ltb (length (drop (2 + next) d)) pad (omega (arith, body-room, length-drop (2 + next) d)) in
@@ -201,7 +203,7 @@ module _ (sd : Bool) (d : List ℕ) (count : ℕ) where
           → answerOf h l ≡ packetOf (body sd d count)
       unfolding inner
       body-equal v h e =
-          rw (e, reads, frames-equal sd (getD d 1 0 / 128 % 2) count inner v)
+          rw (e, body-reads, frames-equal sd (getD d 1 0 / 128 % 2) count inner v)
           (answer-of inner (length d) (getD d 0 0) count (2 + next) pad (equal sd R6 count inner) (equal-within inner count sd R6) all-bytes f l g)
 
     -- what the packet with its flag is, counted from what stands before and behind its frames
@@ -210,7 +212,7 @@ module _ (sd : Bool) (d : List ℕ) (count : ℕ) where
         (unequal sd R7 (count - 1) (part d (2 + next) (length d - pad))))
         → x ≡ packetOf (body sd d count)
     unfolding inner
-    body-unequal n x e = rw (reads, frames-unequal sd (getD d 1 0 / 128 % 2) count inner n) (rw body-bytes at e)
+    body-unequal n x e = rw (body-reads, frames-unequal sd (getD d 1 0 / 128 % 2) count inner n) (rw body-bytes at e)
 
 -- ---- code 3
 -- a frame is at least 2.5 ms
@@ -229,7 +231,7 @@ module _ (toc count n : ℕ) (b : toc < 256) (e : n ≡ samples 48000 (configura
 
 module _ (sd : Bool) where
   -- a packet that is long enough for its count byte
-  three-is : (d : List ℕ) → 2 ≤ length d
+  pub three-is : (d : List ℕ) → 2 ≤ length d
       → read3 sd (length d) (getD d 0 0) (drop 1 d) ≡ cond (lasts (upperSix (getD d 0 0)) (getD d 1 0 % 64)) (body sd d (getD d 1 0 % 64)) (refused R5 1)
   three-is [] h = absurd (omega arith)
   three-is (toc ∷ []) h = absurd (omega arith)

@@ -138,7 +138,7 @@ first-byte [] (suc n) h = refl
 first-byte (a ∷ p) (suc n) h = refl
 
 module _ (p : List ℕ) (toc : ℕ) (ns : List ℕ) (first taken : ℕ) (w : Spelled false p toc ns first taken) where
-  all-taken : taken ≡ length p
+  pub all-taken : taken ≡ length p
   all-taken = let none : length (drop taken p) ≡ 0 = ap length (w .behind) in omega (arith, w .within, length-drop taken p)
 
   few-bytes : 1 ≤ first → (code (getD p 0 0) ≡ 3 → ⊥) → length p ≤ 2553

@@ -3,4 +3,5 @@ pub mod Naming
 pub mod Promises
 pub mod AtPacket
 pub mod AtShort
+pub mod AtEqual
 pub mod Lent

@@ -1,7 +1,7 @@
 -- What the packet reader answers (document 01, 'Reading a packet').
-use Prim.Native.Nat.{ℕ}
+use Prim.Native.Nat.{ℕ, _/_, _%_}
 use mathlib.Core.List.{List, [], _∷_}
-use mathlib.Core.Bool.{Bool, false, cond}
+use mathlib.Core.Bool.{Bool, false, cond, _&&_}
 use lib.Dec.{ltb, eqb}
 use lib.IntN.{ℤ, pos}
 use lib.ListN.{length, getD}
@@ -12,6 +12,8 @@ use Rattle.opus_defines.specs.declared.Refusal.{Refusal}
 use Rattle.opus_defines.specs.declared.Refusal.the-variants.{BadArg}
 use Rattle.opus_defines.specs.declared.Verdict.{Verdict}
 use Rattle.opus_defines.specs.declared.Verdict.the-variants.{Accepted, Refused}
+use Rattle.opus_defines.specs.declared.Rule.the-variants.{R2, R6}
+use Rattle.opus_size.specs.Size.{mostBytes}
 use Rattle.opus_toc.specs.Toc.{code}
 use Rattle.opus_format.specs.Frames.{padded48}
 use Rattle.opus_format.specs.Reading.{Reading, refused, accepted, read}
@@ -19,6 +21,8 @@ use Rattle.opus.specs.declared.Packet.{Packet}
 use Rattle.opus.specs.declared.PacketHead.{PacketHead}
 use Rattle.opus.specs.declared.Short.{Short}
 use Rattle.opus.specs.declared.Short.the-variants.{One, Two, Broken, Counted}
+use Rattle.opus.specs.declared.code_3.Equal.{Equal}
+use Rattle.opus.specs.declared.code_3.Equal.the-variants.{Same, Wrong, Other}
 
 -- a refusal, and zeros
 abbrev pub noPacket : Refusal → Packet
@@ -44,6 +48,20 @@ shortOf (accepted toc (m ∷ n ∷ k ∷ ns) first taken) = Counted
 -- `short_at`: an ordinary packet, but for code 3
 unfoldable pub shortAt : List ℕ → Short
 shortAt p = cond (eqb (code (getD p 0 0)) 3) Counted (shortOf (read false p))
+
+-- so many bytes shared by frames of equal lengths, from a place on
+abbrev pub sharedAt : ℕ → ℕ → ℕ → Equal
+sharedAt rest count first =
+    cond (eqb (rest % count) 0) (cond (ltb mostBytes (rest / count)) (Wrong R2 first) (Same count (rest / count) first)) (Wrong R6 first)
+
+-- frames of equal lengths
+abbrev pub equalOf : Reading → Equal
+equalOf (refused rule place) = Wrong rule place
+equalOf (accepted toc ns first taken) = Same (length ns) (getD ns 0 0) first
+
+-- `equal_at`: an ordinary packet of code 3 without its flag for unequal lengths
+unfoldable pub equalAt : List ℕ → Equal
+equalAt p = cond (eqb (code (getD p 0 0)) 3 && eqb (getD p 1 0 / 128 % 2) 0) (equalOf (read false p)) Other
 
 -- the number that the crate returns: the count, or the refusal's number
 abbrev pub packetNumber : Packet → ℤ

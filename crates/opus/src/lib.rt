@@ -1,5 +1,7 @@
 // The packet reader in both delimitings (RFC 6716, sections 3.2 to 3.4 and appendix B): `opus_packet_parse_impl` and
 // `opus_packet_parse` of opus.rs. A packet's frames lie one behind another, so the answer has their lengths and the first one's place.
+pub mod code_3;
+
 ghost use mathlib.Core.Path.{_≡_};
 ghost use mathlib.Core.Bool.{false};
 ghost use mathlib.Core.List.{[]};
