@@ -163,9 +163,6 @@ pub record-place : (s : List ℕ) (at : ℕ) → recordFrom s at .place ≡ at +
 unfolding recordFrom
 record-place s at = refl
 
-pub not-before : (s : List ℕ) (at : ℕ) (r : Record) → r ≡ recordFrom s at → at ≤ r .place
-not-before s at r e = rw e (omega (arith, record-place s at))
-
 pub next-found : (s : List ℕ) (start passed : ℕ) (r : Record) → r ≡ recordFrom s start → passed ≡ r .place - start → start ≤ length s
     → withPassed r passed ≡ nextRecord s start
 next-found s start passed r e p h =

@@ -5,6 +5,7 @@ pub mod Written
 pub mod Packets
 pub mod Files
 pub mod Answers
+pub mod Seeking
 pub mod Steps
 pub mod Whole
 pub mod Once

@@ -1,15 +1,13 @@
 -- The packet of the record at a place, as a list of bytes.
 --     packet-front      it is that of the record at the front of what stands from there on
 --     packet-bytes      its numbers are bytes
---     packet-first      its first byte stands behind the head
 -- Assumes nothing.
-use mathlib.Core.Path.{_≡_, _∙_}
+use mathlib.Core.Path.{_≡_}
 use mathlib.Core.List.{List}
-use Prim.Native.Nat.{ℕ, _+_, _<_}
-use native.Mathlib.Nat.{zero-add, add-zero}
-use native.Mathlib.Omega.{arith}
-use lib.ListN.{getD, drop}
-use lib.Seq.{getD-take, getD-drop, drop-drop}
+use Prim.Native.Nat.{ℕ, _+_}
+use native.Mathlib.Nat.{zero-add}
+use lib.ListN.{drop}
+use lib.Seq.{drop-drop}
 use Rattle.laws.specs.Bytes.{Bytes}
 use Rattle.laws.proofs.Bytes.{bytes-take, bytes-drop}
 use Rattle.capture.specs.Finding.{packetLength, packetAt}
@@ -22,9 +20,3 @@ module _ (s : List ℕ) (at : ℕ) where
   pub packet-bytes : Bytes s → Bytes (packetAt s at)
   unfolding packetAt
   packet-bytes bytes = bytes-take (packetLength (drop at s)) (drop (at + 5) s) (bytes-drop (at + 5) s bytes)
-
-  pub packet-first : (packetLength (drop at s) ≡ 0 → ⊥) → getD (packetAt s at) 0 0 ≡ getD s (at + 5) 0
-  unfolding packetAt
-  packet-first f =
-      let some : 0 < packetLength (drop at s) = omega arith in
-      getD-take (packetLength (drop at s)) (drop (at + 5) s) 0 0 some ∙ rw (getD-drop, add-zero)

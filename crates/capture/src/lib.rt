@@ -13,7 +13,7 @@ use opus_defines::wide_byte;
 // The bytes of a record before its packet.
 pub const HEAD_BYTES: usize = 5;
 
-// The first record at or after a place: its line, the place of its mark, the bytes of its packet. Where there is none: 0, the end, 0.
+// The first record at or after a place, as `recordFrom` has it: its line, the place of its mark, the bytes of its packet. Where there is none: 0, the end, 0.
 struct Record {
     line: u8,
     place: usize,
@@ -65,55 +65,48 @@ pub fn packet_at<'a>(data: &'a [u8], at: usize) -> &'a [u8]
     &data[first..first + n]
 }
 
-// The record at a place, or else the first one after it.
-fn record_at(data: &[u8], at: usize) -> Record
+// The place of the record that stands at a place, or else of the first one after it; the end where there is none.
+fn record_at(data: &[u8], at: usize) -> usize
     requires { ⌜ at < length (now «data») ⌝ }
-    ensures { λ r. ⌜ r ≡ recordFrom (now («data» .entry)) at ⌝ }
+    ensures { λ r. ⌜ r ≡ recordFrom (now («data» .entry)) at .place ⌝ }
 {
-    let n = packet_length(data, at);
-    if n != 0 {
-        return Record {
-            line: data[at + 2],
-            place: at,
-            length: n,
-        };
+    if packet_length(data, at) != 0 {
+        return at;
     }
     seek_mark(data, at + 1)
 }
 
-// The first record at or after a place. Places where none stands are passed over in loops, those first that do not even begin a mark, and only one
-// where a record stands is handed to `record_at`, which then answers without a further call: so the calls are never nested deeper than
-// three, whatever the bytes are.
-fn seek_mark(data: &[u8], at: usize) -> Record
+// The place of the first record at or after a place. Places where none stands are passed over in a loop, and only one where a record stands is
+// handed to `record_at`, which then answers without a further call: so the calls are never nested deeper than three, whatever the bytes are.
+//
+// The loop asks by itself, and up to the last place that has bytes enough for a head: so a byte costs two tests, and no bound is asked twice.
+fn seek_mark(data: &[u8], at: usize) -> usize
     requires { ⌜ at ≤ length (now «data») ⌝ }
-    ensures { λ r. ⌜ r ≡ recordFrom (now («data» .entry)) at ⌝ }
+    ensures { λ r. ⌜ r ≡ recordFrom (now («data» .entry)) at .place ⌝ }
 {
-    let mut place = bytes::scan::find(data, at, data.len(), 0x4B);
-    while place < data.len() {
-        if packet_length(data, place) != 0 {
-            return record_at(data, place);
+    if data.len() - at < HEAD_BYTES {
+        return data.len();
+    }
+    let last = data.len() - HEAD_BYTES;
+    let mut place = at;
+    while place <= last {
+        if data[place] == 0x4B {
+            if data[place + 1] == 0x9D {
+                let n = 256 * wide_byte(data[place + 3]) + wide_byte(data[place + 4]);
+                if n != 0 {
+                    if place + n <= last {
+                        return record_at(data, place);
+                    }
+                }
+            }
         }
-        place = bytes::scan::find(data, place + 1, data.len(), 0x4B);
+        place += 1;
     }
-    Record {
-        line: 0,
-        place,
-        length: 0,
-    }
+    data.len()
 }
 
-fn first_record(data: &[u8], start: usize) -> Record
-    requires { ⌜ start ≤ length (now «data») ⌝ }
-    ensures { λ r. ⌜ r ≡ recordFrom (now («data» .entry)) start ⌝ }
-{
-    if start < data.len() {
-        record_at(data, start)
-    } else {
-        seek_mark(data, start)
-    }
-}
-
-// The next record from a start place on; BadArg where that lies past the end.
+// The next record from a start place on; BadArg where that lies past the end. What is handed on is a place, and line and length are read there: a record
+// handed on through memory costs more.
 pub fn next_record(data: &[u8], start: usize) -> NextRecord
     ensures { λ r. ⌜ r ≡ nextRecord (now («data» .entry)) start ⌝ }
 {
@@ -126,12 +119,23 @@ pub fn next_record(data: &[u8], start: usize) -> NextRecord
             passed: 0,
         };
     }
-    let r = first_record(data, start);
+    let mut place = start;
+    let mut n = packet_length(data, start);
+    if n == 0 {
+        if start < data.len() {
+            place = seek_mark(data, start + 1);
+            n = packet_length(data, place);
+        }
+    }
+    let mut line: u8 = 0;
+    if n != 0 {
+        line = data[place + 2];
+    }
     NextRecord {
         verdict: Verdict::Accepted,
-        line: r.line,
-        place: r.place,
-        length: r.length,
-        passed: r.place - start,
+        line,
+        place,
+        length: n,
+        passed: place - start,
     }
 }

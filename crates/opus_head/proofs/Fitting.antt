@@ -10,8 +10,8 @@ use mathlib.Core.Bool.{Bool, true, false, cond, _&&_}
 use lib.Dec.{eqb, ltb, leb}
 use lib.ListN.{length, drop, getD, drop-of-length-le}
 use lib.Seq.{drop-cons}
-use borrow.Author.Tests.{lt-ltb, le-ltb, le-leb, lt-leb, eq-eqb, ne-eqb, ltb-true, ltb-false}
-use Rattle.laws.proofs.Never.{by-test, cond-elim}
+use borrow.Author.Tests.{le-leb, lt-leb, eq-eqb, ne-eqb}
+use Rattle.laws.proofs.Never.{cond-elim}
 use Rattle.opus_defines.specs.declared.Refusal.the-variants.{BadField}
 use Rattle.opus_head.specs.declared.OpusHead.{OpusHead}
 use Rattle.opus_head.specs.Reading.{channelsFit, entriesFit, ruled, longAs, aHead, noHead, bytesNeeded, fieldsFit, oneStream, streamsFit}
@@ -43,33 +43,49 @@ module _ (n m : ℕ) where
   streams-sum h o ea eb = rw (le-leb 1 n h, le-leb m n o, ea, eb)
 
 -- ---- entries: what the test says from entry i on
+never-both : (b : Bool) → b && false ≡ false
+never-both true = refl
+never-both false = refl
+
+always-both : (b : Bool) → b && true ≡ b
+always-both true = refl
+always-both false = refl
+
 abbrev pub fitFrom : List ℕ → ℕ → ℕ → ℕ → Bool
 fitFrom s n sum i = entriesFit (n - i) sum (drop i s)
 
-module _ (n sum i e : ℕ) where
-  pub entry-behind : n ≤ i → entryFits n sum i e ≡ eqb e 0
-  entry-behind h = rw (le-ltb i n h)
+module _ (sum e : ℕ) where
+  pub entry-silent : e ≡ 255 → entryFits sum e ≡ true
+  entry-silent h = rw (eq-eqb e 255 h)
 
-  pub entry-silent : i < n → e ≡ 255 → entryFits n sum i e ≡ true
-  entry-silent h k = rw (lt-ltb i n h, eq-eqb e 255 k)
-
-  pub entry-placed : i < n → (e ≡ 255 → ⊥) → entryFits n sum i e ≡ ltb e sum
-  entry-placed h o = rw (lt-ltb i n h, ne-eqb e 255 o)
+  pub entry-placed : (e ≡ 255 → ⊥) → entryFits sum e ≡ ltb e sum
+  entry-placed o = rw (ne-eqb e 255 o)
 
 module _ (s : List ℕ) (n sum i : ℕ) (h : i < length s) where
-  from-entry : fitFrom s n sum i ≡ entryFits n sum i (getD s i 0) && fitFrom s n sum (i + 1)
-  from-entry =
-      by-test (ltb i n)
-      (λ t. let e : n - i ≡ suc (n - suc i) = omega (arith, ltb-true i n t) in rw (drop-cons s i 0 h, e, add-one, t))
-      (λ t. let e : n - i ≡ 0 = omega (arith, ltb-false i n t) in
-      let e′ : n - suc i ≡ 0 = omega (arith, ltb-false i n t) in
-      rw (drop-cons s i 0 h, e, add-one, e′, t))
+  -- the entry of a channel
+  module _ (k : i < n) where
+    from-entry : fitFrom s n sum i ≡ entryFits sum (getD s i 0) && fitFrom s n sum (i + 1)
+    from-entry = let e : n - i ≡ suc (n - suc i) = omega arith in rw (drop-cons s i 0 h, e, add-one)
 
-  pub entry-passed : {e : ℕ} → e ≡ getD s i 0 → entryFits n sum i e ≡ true → fitFrom s n sum i ≡ fitFrom s n sum (i + 1)
-  entry-passed d t = from-entry ∙ ap (λ (b : Bool). b && fitFrom s n sum (i + 1)) (rw d at t)
+    pub entry-passed : {e : ℕ} → e ≡ getD s i 0 → entryFits sum e ≡ true → fitFrom s n sum i ≡ fitFrom s n sum (i + 1)
+    entry-passed d t = from-entry ∙ ap (λ (b : Bool). b && fitFrom s n sum (i + 1)) (rw d at t)
 
-  pub entry-refused : {e : ℕ} → e ≡ getD s i 0 → entryFits n sum i e ≡ false → fitFrom s n sum i ≡ false
-  entry-refused d t = from-entry ∙ ap (λ (b : Bool). b && fitFrom s n sum (i + 1)) (rw d at t)
+    pub entry-refused : {e : ℕ} → e ≡ getD s i 0 → entryFits sum e ≡ false → fitFrom s n sum i ≡ false
+    entry-refused d t = from-entry ∙ ap (λ (b : Bool). b && fitFrom s n sum (i + 1)) (rw d at t)
+
+  -- one behind the channels, and what is said of those before it
+  module _ (k : n ≤ i) (fits : Bool) where
+    from-unused : fitFrom s n sum i ≡ eqb (getD s i 0) 0 && fitFrom s n sum (i + 1)
+    from-unused =
+        let e : n - i ≡ 0 = omega arith in
+        let e′ : n - suc i ≡ 0 = omega arith in
+        rw (drop-cons s i 0 h, e, add-one, e′)
+
+    pub unused-passed : {fits′ : Bool} → fits′ ≡ fits → getD s i 0 ≡ 0 → fits && fitFrom s n sum i ≡ fits′ && fitFrom s n sum (i + 1)
+    unused-passed e z = rw (e, from-unused, eq-eqb (getD s i 0) 0 z)
+
+    pub unused-refused : {fits′ : Bool} → fits′ ≡ false → (getD s i 0 ≡ 0 → ⊥) → fits && fitFrom s n sum i ≡ fits′ && fitFrom s n sum (i + 1)
+    unused-refused e o = rw (e, from-unused, ne-eqb (getD s i 0) 0 o) (never-both fits)
 
 pub entries-start : (s : List ℕ) (n sum : ℕ) → entriesFit n sum s ≡ fitFrom s n sum 0
 entries-start s n sum = rw sub-zero
@@ -80,6 +96,9 @@ none-left (suc n) sum = refl
 
 pub entries-end : (s : List ℕ) (n sum i : ℕ) → length s ≤ i → fitFrom s n sum i ≡ true
 entries-end s n sum i h = rw (drop-of-length-le s h) (none-left (n - i) sum)
+
+pub fits-end : (s : List ℕ) (n sum i : ℕ) (fits : Bool) → length s ≤ i → fits && fitFrom s n sum i ≡ fits
+fits-end s n sum i fits h = rw (entries-end s n sum i h) (always-both fits)
 
 -- ---- one stream
 module _ (channels streams coupled : ℕ) (s : List ℕ) where

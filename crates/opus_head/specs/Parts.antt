@@ -10,9 +10,9 @@ use Rattle.opus_head.specs.declared.HeadRead.{HeadRead}
 use Rattle.opus_head.specs.Reading.{ruled, noHead, aHead}
 
 -- ---- reading
--- what the entry of channel i of n may be, and one behind them
-abbrev pub entryFits : ℕ → ℕ → ℕ → ℕ → Bool
-entryFits n sum i e = cond (ltb i n) (eqb e 255 || ltb e sum) (eqb e 0)
+-- what the entry of a channel may be
+abbrev pub entryFits : ℕ → ℕ → Bool
+entryFits sum e = eqb e 255 || ltb e sum
 
 abbrev pub checked : OpusHead → HeadRead
 checked h = cond (ruled h) (aHead h) (noHead BadField)

@@ -70,30 +70,36 @@ fn streams_fit(streams: u8, coupled: u8) -> bool
     wide_byte(streams) + wide_byte(coupled) <= 255
 }
 
-// Whether entry i may be e: 255 or below the sum for the first n channels, and 0 behind them.
-fn entry_fits(n: usize, sum: usize, i: usize, e: usize) -> bool
-    ensures { λ r. ⌜ r ≡ entryFits n sum i e ⌝ }
+// Whether the entry of a channel may be e: 255 or below the sum.
+fn entry_fits(sum: usize, e: usize) -> bool
+    ensures { λ r. ⌜ r ≡ entryFits sum e ⌝ }
 {
-    if n <= i {
-        return e == 0;
-    }
     if e == 255 {
         return true;
     }
     e < sum
 }
 
+// The entries of n channels, then zeros. Those behind the channels, nearly always most of the 255, are looked at without a way out of the loop: 16 at a time.
 fn entries_fit(mapping: &[u8], n: usize, sum: usize) -> bool
+    requires { ⌜ n ≤ length (now mapping) ⌝ }
     ensures { λ r. ⌜ r ≡ entriesFit n sum (now (mapping .entry)) ⌝ }
 {
     let mut i: usize = 0;
-    while i < mapping.len() {
-        if !entry_fits(n, sum, i, wide_byte(mapping[i])) {
+    while i < n {
+        if !entry_fits(sum, wide_byte(mapping[i])) {
             return false;
         }
         i += 1;
     }
-    true
+    let mut fits = true;
+    while i < mapping.len() {
+        if mapping[i] != 0 {
+            fits = false;
+        }
+        i += 1;
+    }
+    fits
 }
 
 // Whether the fields are what family 0 means.
