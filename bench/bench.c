@@ -52,7 +52,7 @@ int32_t opus_multistream_packet_unpad(uint8_t *, int32_t, int);
 
 /* ---- a set */
 
-enum kind { COUNT, READ, READ_SELF, PACK, PACK_STRICT, CUT, CUT_SINGLY, UNPAD, PAD, STREAMS_UNPAD, STREAMS_PAD, JOIN, TAKE };
+enum kind { COUNT, READ, READ_SELF, PACK, PACK_STRICT, PACK_LOOKED, CUT, CUT_SINGLY, NUMBER, JUDGE, UNPAD, PAD, STREAMS_UNPAD, STREAMS_PAD, JOIN, TAKE, KINDS };
 enum side { NONE, OURS, CRATE, LIBOPUS, SIDES };
 static const char *side_names[] = {"none", "ours", "crate", "libopus"};
 
@@ -65,7 +65,8 @@ struct set {
     const uint8_t *packet[48];
     int len[48];
     int new_len, streams;             /* for PAD and the multistream calls */
-    int cuts;                         /* for CUT: the frames held are cut in so many parts of the same number of frames */
+    int cuts;                         /* for CUT: the frames held are cut in so many parts of the same number of frames; for NUMBER, one a packet */
+    int number;                       /* for NUMBER: that of the packet */
     long moved;
     int frames, chain;                /* frames in all, and padding length bytes that are read */
 };
@@ -130,7 +131,7 @@ static int ours_pack(const struct set *s) {
     }
     return aveluafi_repacketizer_out(&our_rp, store, sizeof store, buffer, ROOM);
 }
-/* Strict adds; the other sides have none, and add as ever. */
+/* Strict adds; the other sides have none, and add as ever (PACK_STRICT) or look at the padding before they add (PACK_LOOKED). */
 static int ours_pack_strict(const struct set *s) {
     aveluafi_repacketizer_init(&our_rp);
     for (int i = 0; i < s->packets; i++) {
@@ -156,6 +157,51 @@ static int libopus_pack(const struct set *s) {
     return opus_repacketizer_out(libopus_rp, buffer, ROOM);
 }
 
+/* What a caller of the other sides has to do for a strict add: read the packet, and see that all bytes behind its last frame are zero. */
+static bool all_zero(const uint8_t *p, const uint8_t *end) {
+    for (; p < end; p++)
+        if (*p) return false;
+    return true;
+}
+/* -4 for a packet that cannot be read, 0 for dirty padding, 1 for a packet that has none. */
+static int crate_look(const uint8_t *packet, int len) {
+    uint8_t toc;
+    const uint8_t *frames[48];
+    int16_t size[48];
+    int32_t first, taken;
+    int n = crate_packet_parse_impl(packet, len, 0, &toc, frames, size, &first, &taken);
+    return n < 0 ? n : all_zero(frames[n - 1] + size[n - 1], packet + taken);
+}
+static int libopus_look(const uint8_t *packet, int len) {
+    uint8_t toc;
+    const uint8_t *frames[48];
+    int16_t size[48];
+    int first;
+    int32_t taken;
+    int n = opus_packet_parse_impl(packet, len, 0, &toc, frames, size, &first, &taken);
+    return n < 0 ? n : all_zero(frames[n - 1] + size[n - 1], packet + taken);
+}
+static int crate_pack_looked(const struct set *s) {
+    crate_repacketizer_init(crate_rp);
+    for (int i = 0; i < s->packets; i++) {
+        int r = crate_look(s->packet[i], s->len[i]);
+        if (r != 1) return r < 0 ? r : AVELUAFI_DIRTY_PADDING;
+        r = crate_repacketizer_cat(crate_rp, s->packet[i], s->len[i]);
+        if (r != 0) return r;
+    }
+    return crate_repacketizer_out(crate_rp, buffer, ROOM);
+}
+static int libopus_pack_looked(const struct set *s) {
+    opus_repacketizer_init(libopus_rp);
+    for (int i = 0; i < s->packets; i++) {
+        int r = libopus_look(s->packet[i], s->len[i]);
+        if (r != 1) return r < 0 ? r : AVELUAFI_DIRTY_PADDING;
+        r = opus_repacketizer_cat(libopus_rp, s->packet[i], s->len[i]);
+        if (r != 0) return r;
+    }
+    return opus_repacketizer_out(libopus_rp, buffer, ROOM);
+}
+
 /* Cuts of a collector that holds the set's packets already: all sides hold them before the first call. The orders are those of `orders`; the other sides
    have single outputs alone, and ours has both. */
 static struct aveluafi_order orders[AVELUAFI_MOST_ORDERS];
@@ -173,6 +219,39 @@ static void hold(const struct set *s) {
         orders[i].begin = i * (s->frames / s->cuts);
         orders[i].end = (i + 1) * (s->frames / s->cuts);
     }
+}
+
+/* Output by packet number. The other sides keep no numbers: their caller has kept the range of each packet's frames, which ours looks for. */
+static int ours_number(const struct set *s) { return aveluafi_repacketizer_out_packet(&our_rp, store, sizeof store, s->number, buffer, ROOM); }
+static int crate_number(const struct set *s) {
+    return crate_repacketizer_out_range(crate_rp, orders[s->number].begin, orders[s->number].end, buffer, ROOM);
+}
+static int libopus_number(const struct set *s) {
+    return opus_repacketizer_out_range(libopus_rp, orders[s->number].begin, orders[s->number].end, buffer, ROOM);
+}
+
+/* The judge, as one number: -4 unreadable, 0 dirty, else the least length. The other sides have none: their caller reads the packet, looks at its padding, and
+   has the repacketizer write it anew, elsewhere, for its length. That reads the packet twice and copies its frames once; rule and place they do not tell. */
+static uint8_t elsewhere[ROOM];
+
+static int ours_judge(const struct set *s) {
+    struct aveluafi_verdict v = aveluafi_packet_judge(s->packet[0], s->len[0], false);
+    if (v.number < 0) return v.number;
+    return v.verdict == AVELUAFI_UNREADABLE ? AVELUAFI_INVALID_PACKET : v.verdict == AVELUAFI_CLEAN ? s->len[0] : (int)v.least;
+}
+static int crate_judge(const struct set *s) {
+    int r = crate_look(s->packet[0], s->len[0]);
+    if (r != 1) return r;
+    crate_repacketizer_init(crate_rp);
+    r = crate_repacketizer_cat(crate_rp, s->packet[0], s->len[0]);
+    return r != 0 ? r : crate_repacketizer_out(crate_rp, elsewhere, ROOM);
+}
+static int libopus_judge(const struct set *s) {
+    int r = libopus_look(s->packet[0], s->len[0]);
+    if (r != 1) return r;
+    opus_repacketizer_init(libopus_rp);
+    r = opus_repacketizer_cat(libopus_rp, s->packet[0], s->len[0]);
+    return r != 0 ? r : opus_repacketizer_out(libopus_rp, elsewhere, ROOM);
 }
 
 static int ours_cut(const struct set *s) {
@@ -302,8 +381,11 @@ static const struct {
     [READ_SELF] = {"reader, self-delimited", false, {none, ours_read_self, crate_read_self, libopus_read_self}},
     [PACK] = {"init, add, output", false, {none, ours_pack, crate_pack, libopus_pack}},
     [PACK_STRICT] = {"init, strict add, output", false, {none, ours_pack_strict, crate_pack, libopus_pack}},
+    [PACK_LOOKED] = {"strict add; others: look, add", false, {none, ours_pack_strict, crate_pack_looked, libopus_pack_looked}},
     [CUT] = {"many cuts in one call", false, {none, ours_cut, crate_cut, libopus_cut}},
     [CUT_SINGLY] = {"the same by single outputs", false, {none, ours_cut_singly, crate_cut, libopus_cut}},
+    [NUMBER] = {"output by packet number", false, {none, ours_number, crate_number, libopus_number}},
+    [JUDGE] = {"judge; others: look, rewrite", false, {none, ours_judge, crate_judge, libopus_judge}},
     [UNPAD] = {"unpad", true, {none, ours_unpad, crate_unpad, libopus_unpad}},
     [PAD] = {"pad", true, {none, ours_pad, crate_pad, libopus_pad}},
     [STREAMS_UNPAD] = {"multistream unpad", true, {none, ours_streams_unpad, crate_streams_unpad, libopus_streams_unpad}},
@@ -387,7 +469,7 @@ static int fields(const int *sizes, int n) {
 
 /* ---- the table's sets */
 
-enum { SILK_20 = 0x08, CELT_2_5 = 0x80, CELT_20 = 0x98 };   /* TOC bytes by frame duration in ms */
+enum { SILK_20 = 0x08, CELT_2_5 = 0x80, CELT_10 = 0x90, CELT_20 = 0x98 };   /* TOC bytes by frame duration in ms */
 
 static const int six[] = {40, 45, 38, 52, 47, 41};
 
@@ -412,10 +494,17 @@ static long six_streams(struct set *s, int padding) {
     return all;
 }
 
+/* 48 frames of 15 to 25 bytes. */
+static void small_sizes(int *sizes) {
+    for (int i = 0; i < 48; i++) sizes[i] = 15 + i % 11;
+}
+
 static void forty(struct set *s) {
     int n = 39;
     add_packet(s, SILK_20, 0, &n, 1, false, 0, false);
 }
+
+static enum kind pack_kind(const char *key) { return key[0] == 's' ? PACK_STRICT : key[0] == 'l' ? PACK_LOOKED : PACK; }
 
 static void make(struct set *s, const char *key) {
     int sizes[48], length, count;
@@ -426,28 +515,95 @@ static void make(struct set *s, const char *key) {
     } else if (!strcmp(key, "voice-count")) {
         s->kind = COUNT, s->what = "voice, 40 bytes, code 0";
         forty(s);
-    } else if (!strcmp(key, "pack-6") || !strcmp(key, "strict-6")) {
-        s->kind = key[0] == 's' ? PACK_STRICT : PACK, s->what = "6 unequal frames, 200 bytes of padding";
+    } else if (!strcmp(key, "read-2")) {
+        s->kind = READ, s->what = "2 frames of 39 and 44 bytes, code 2";
+        add_packet(s, SILK_20, 2, (const int[]){39, 44}, 2, false, 0, false);
+    } else if (!strcmp(key, "read-3-equal")) {
+        s->kind = READ, s->what = "3 equal frames of 40 bytes";
+        add_packet(s, SILK_20, 3, (const int[]){40, 40, 40}, 3, true, 0, false);
+    } else if (!strcmp(key, "self-0")) {
+        s->kind = READ_SELF, s->what = "one frame of 39 bytes, code 0";
+        add_packet(s, SILK_20, 0, (const int[]){39}, 1, false, 0, true);
+    } else if (!strcmp(key, "self-3-equal")) {
+        s->kind = READ_SELF, s->what = "3 equal frames of 40 bytes";
+        add_packet(s, SILK_20, 3, (const int[]){40, 40, 40}, 3, true, 0, true);
+    } else if (!strcmp(key, "self-6")) {
+        s->kind = READ_SELF, s->what = "6 unequal frames, 200 bytes of padding";
+        add_packet(s, SILK_20, 3, six, 6, false, 200, true);
+    } else if (!strcmp(key, "pack-6") || !strcmp(key, "strict-6") || !strcmp(key, "looked-6")) {
+        s->kind = pack_kind(key), s->what = "6 unequal frames, 200 bytes of padding";
         int n[] = {39, 44, 37, 41, 40, 38};
         add_packet(s, SILK_20, 3, n, 6, false, 200, false);
         s->moved = total(n, 6);
-    } else if (!strcmp(key, "pack-3") || !strcmp(key, "strict-3")) {
-        s->kind = key[0] == 's' ? PACK_STRICT : PACK, s->what = "3 packets of 40, 45, 38 bytes";
+    } else if (!strcmp(key, "pack-3") || !strcmp(key, "strict-3") || !strcmp(key, "looked-3")) {
+        s->kind = pack_kind(key), s->what = "3 packets of 40, 45, 38 bytes";
         int n[] = {39, 44, 37};
         for (int i = 0; i < 3; i++) add_packet(s, SILK_20, 0, n + i, 1, false, 0, false);
         s->moved = total(n, 3);
     } else if (!strcmp(key, "read-48-equal") || !strcmp(key, "read-48-unequal")) {
         bool equal = !strcmp(key, "read-48-equal");
         s->kind = READ, s->what = equal ? "48 equal frames of 2.5 ms" : "48 unequal frames of 2.5 ms";
-        for (int i = 0; i < 48; i++) sizes[i] = equal ? 20 : 15 + i % 11;
+        small_sizes(sizes);
+        for (int i = 0; i < 48 && equal; i++) sizes[i] = 20;
         add_packet(s, CELT_2_5, 3, sizes, 48, equal, 0, false);
-    } else if (!strcmp(key, "pack-48") || !strcmp(key, "strict-48")) {
-        s->kind = key[0] == 's' ? PACK_STRICT : PACK, s->what = "48 packets of one frame of 2.5 ms";
-        for (int i = 0; i < 48; i++) {
-            sizes[i] = 15 + i % 11;
-            add_packet(s, CELT_2_5, 0, sizes + i, 1, false, 0, false);
-        }
+    } else if (!strcmp(key, "pack-48") || !strcmp(key, "strict-48") || !strcmp(key, "looked-48")) {
+        s->kind = pack_kind(key), s->what = "48 packets of one frame of 2.5 ms";
+        small_sizes(sizes);
+        for (int i = 0; i < 48; i++) add_packet(s, CELT_2_5, 0, sizes + i, 1, false, 0, false);
         s->moved = total(sizes, 48);
+    } else if (!strcmp(key, "pack-12")) {
+        s->kind = PACK, s->what = "12 packets of one frame of 670 to 692 bytes";
+        for (int i = 0; i < 12; i++) {
+            sizes[i] = 670 + 2 * (5 * i % 12);
+            add_packet(s, CELT_10, 0, sizes + i, 1, false, 0, false);
+        }
+        s->moved = total(sizes, 12);
+    } else if (!strcmp(key, "number-3") || !strcmp(key, "number-48")) {
+        s->kind = NUMBER;
+        s->cuts = !strcmp(key, "number-3") ? 3 : 48;
+        s->number = s->cuts - 1;
+        s->what = s->cuts == 3 ? "the last of 3 packets of one frame" : "the last of 48 packets of one frame of 2.5 ms";
+        small_sizes(sizes);
+        for (int i = 0; i < s->cuts; i++) add_packet(s, s->cuts == 3 ? SILK_20 : CELT_2_5, 0, sizes + i, 1, false, 0, false);
+        s->moved = sizes[s->number];
+    } else if (!strcmp(key, "number-8")) {
+        s->kind = NUMBER, s->cuts = 8, s->number = 4, s->what = "the fifth of 8 packets of 6 frames of 2.5 ms";
+        small_sizes(sizes);
+        for (int i = 0; i < 8; i++) add_packet(s, CELT_2_5, 3, sizes + 6 * i, 6, false, 0, false);
+        s->moved = total(sizes + 6 * s->number, 6);
+    } else if (!strcmp(key, "judge-voice")) {
+        s->kind = JUDGE, s->what = "clean: voice, 40 bytes, code 0";
+        forty(s);
+    } else if (!strcmp(key, "judge-48")) {
+        s->kind = JUDGE, s->what = "clean: 48 unequal frames of 2.5 ms";
+        small_sizes(sizes);
+        add_packet(s, CELT_2_5, 3, sizes, 48, false, 0, false);
+    } else if (!strcmp(key, "judge-6")) {
+        s->kind = JUDGE, s->what = "longer: 6 unequal frames, 200 bytes of padding";
+        six_frames(s);
+    } else if (!strcmp(key, "judge-dirty")) {
+        s->kind = JUDGE, s->what = "dirty: 6 unequal frames, the last of 200 bytes of padding";
+        six_frames(s);
+        memory[used - 1] = 1;
+    } else if (!strcmp(key, "judge-refused")) {
+        s->kind = JUDGE, s->what = "unreadable, R7: 6 unequal frames, the fifth too long";
+        add_front(s, 40, (const uint8_t[]){SILK_20 | 3, 6 | 0x80, 7, 7, 7, 7, 7}, 7);
+    } else if (!strcmp(key, "unpad-0")) {
+        s->kind = UNPAD, s->what = "nothing to strip: voice, 40 bytes, code 0";
+        forty(s);
+    } else if (!strcmp(key, "unpad-1")) {
+        s->kind = UNPAD, s->what = "one frame of 40 bytes, 60 bytes of padding";
+        s->moved = 40;
+        add_packet(s, SILK_20, 3, (const int[]){40}, 1, true, 60, false);
+    } else if (!strcmp(key, "unpad-3-equal")) {
+        s->kind = UNPAD, s->what = "3 equal frames of 40 bytes, 60 bytes of padding";
+        s->moved = 120;
+        add_packet(s, SILK_20, 3, (const int[]){40, 40, 40}, 3, true, 60, false);
+    } else if (!strcmp(key, "unpad-48")) {
+        s->kind = UNPAD, s->what = "48 unequal frames of 2.5 ms, 200 bytes of padding";
+        small_sizes(sizes);
+        s->moved = total(sizes, 48);
+        add_packet(s, CELT_2_5, 3, sizes, 48, false, 200, false);
     } else if (!strncmp(key, "cut-", 4) || !strncmp(key, "singly-", 7)) {
         s->kind = key[0] == 's' ? CUT_SINGLY : CUT;
         const char *which = strchr(key, '-') + 1;
@@ -577,9 +733,10 @@ static void make(struct set *s, const char *key) {
 }
 
 static const char *keys[] = {
-    "voice", "voice-count", "read-6", "read-1275", "read-48-equal", "read-48-unequal", "pack-3", "pack-48", "pack-6",
-    "strict-3", "strict-48", "strict-6", "cut-3-3", "singly-3-3", "cut-48-48", "singly-48-48", "cut-48-8", "singly-48-8", "cut-48-1", "singly-48-1",
-    "unpad-6", "unpad-1275",
+    "voice", "voice-count", "read-2", "read-1275", "read-3-equal", "read-6", "read-48-equal", "read-48-unequal", "self-0", "self-3-equal", "self-6",
+    "pack-3", "pack-48", "pack-6", "pack-12", "strict-3", "strict-48", "strict-6", "looked-3", "looked-48", "looked-6",
+    "cut-3-3", "singly-3-3", "cut-48-48", "singly-48-48", "cut-48-8", "singly-48-8", "cut-48-1", "singly-48-1", "number-3", "number-8", "number-48",
+    "judge-voice", "judge-48", "judge-6", "judge-dirty", "judge-refused", "unpad-0", "unpad-1", "unpad-3-equal", "unpad-6", "unpad-48", "unpad-1275",
     "streams-unpad", "pad-6-1275", "pad-6-65535", "streams-pad", "join-4", "join-6", "take-6",
     "refused-R1", "refused-R2", "refused-R3", "refused-R4", "refused-R5-none",
     "refused-R5-long", "refused-R6", "refused-R6-padding", "refused-R7", "refused-self", NULL};
@@ -664,7 +821,7 @@ static void compare(const char *key) {
             same = false;
         }
     }
-    if (strncmp(key, "refused", 7) == 0 ? number >= 0 : number < 0) {
+    if (strstr(key, "refused") ? number >= 0 : number < 0) {
         fprintf(stderr, "bench: %s: answered %d\n", key, number);
         same = false;
     }
@@ -691,7 +848,7 @@ static void measure(const char *key, long n) {
             double took = (seconds() - start) / n;
             if (round == 0 || took < least[side]) least[side] = took;
         }
-    for (enum side side = OURS; side < SIDES; side++) printf("%.1f%c", 1e9 * (least[side] - least[NONE]), side == LIBOPUS ? '\n' : ' ');
+    for (enum side side = OURS; side < SIDES; side++) printf("%.3f%c", 1e9 * (least[side] - least[NONE]), side == LIBOPUS ? '\n' : ' ');
 }
 
 /* ---- stack: the memory below this frame is painted, the call is made, and the deepest byte that is not paint any more tells */
@@ -709,7 +866,7 @@ static __attribute__((noinline)) int deepest(void) {
     return DEEP - i;
 }
 
-static int most[TAKE + 1];
+static int most[KINDS];
 
 static void stack_of(const char *key) {
     struct set s;
@@ -766,7 +923,7 @@ int main(int n, char **word) {
     if (n == 2 && !strcmp(word[1], "stack")) {
         each_key(stack_of, false);
         each_key(stack_of, true);
-        for (int i = 0; i <= TAKE; i++) printf("%s\t%d\n", calls[i].name, most[i]);
+        for (int i = 0; i < KINDS; i++) printf("%s\t%d\n", calls[i].name, most[i]);
         printf("share of compaction\t%d\n", stack_of_compaction());
         return 0;
     }

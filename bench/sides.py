@@ -1,5 +1,6 @@
-"""What bench/run, bench/compaction and bench/programs share: the archive, libopus 1.3.1 built from its source, a counter of instructions, a table printed."""
-import platform, re, shutil, subprocess, sys, tarfile
+"""What bench/run, bench/captures, bench/compaction and bench/programs share: the archive, libopus 1.3.1 built from its source, a counter of instructions, a
+table printed, the machine's line."""
+import datetime, os, platform, re, shutil, subprocess, sys, tarfile
 from pathlib import Path
 
 here = Path(__file__).resolve().parent
@@ -7,6 +8,7 @@ top = here.parent
 work = top / "target" / "bench"
 native = platform.machine() == "x86_64"
 OPUS = "opus-1.3.1"
+PASSES = 4
 
 
 def stop(text):
@@ -33,6 +35,69 @@ def sh(*words, **more):
 def processor():
     found = re.search(r"model name\s*: (.*)", Path("/proc/cpuinfo").read_text())
     return found.group(1) if found else "a processor without a name"
+
+
+def first_line(*words):
+    return sh(*words).splitlines()[0]
+
+
+def machine(loaded=True):
+    """What times and counts depend on; the load of this minute, if it is of interest."""
+    by = [f"kit's {first_line(kit_clang(), '--version')}", first_line(compiler(), "--version")]
+    if shutil.which("rustc"):
+        by.append(first_line("rustc", "--version"))
+    load = f", load {os.getloadavg()[0]:.1f}" if loaded else ""
+    day = datetime.datetime.now(datetime.timezone.utc).strftime("%Y-%m-%d")
+    kernel = ".".join(os.uname().release.split(".")[:2])
+    return f"{processor()}, {os.cpu_count()} processors, Linux {kernel}, {os.confstr('CS_GNU_LIBC_VERSION')}{load}, {day}\n" + "; ".join(by)
+
+
+def layout(program, i):
+    """The program in one of its layouts; the first is the program itself."""
+    return Path(f"{program}.{i}") if i else program
+
+
+def link(cc, words, program):
+    """Links a program in several layouts, in each of which all code stands 16 bytes further on. Where a function stands against the lines of the cache moves
+    its time by up to 15 %, and what was linked before it decides that; the least over the layouts does not."""
+    for i in range(PASSES):
+        source = work / f"layout{i}.s"
+        source.write_text(f'.text\n.balign 64\n.globl layout\nlayout: .skip {16 * i + 16}\n.section .note.GNU-stack,"",@progbits\n')
+        sh(cc, "-Wl,--undefined=layout", source, *words, "-o", layout(program, i))
+
+
+def least_times(keys, run):
+    """Of each key the least of each figure that `run` of key and layout prints, over passes through all keys: other work does not meet one row alone."""
+    found = [{key: [max(float(w), 0.01) for w in run(key, i).split()] for key in keys} for i in range(PASSES)]
+    return {key: [min(each) for each in zip(*(one[key] for one in found))] for key in keys}
+
+
+class Targets:
+    """Ratios that are asked for, each for one row or for each of several, to two decimals."""
+
+    def __init__(self, of):
+        self.head, self.lines, self.missed = ["target, " + of, "", "at most", "measured"], [], []
+
+    def ask(self, name, most, found):
+        over = [f"{name}, {key}: {x:.2f}, asked for {most}" for key, x in found.items() if round(x, 2) > most]
+        self.missed += over
+        said = ", ".join(f"{x:.2f}" if isinstance(x, float) else str(x) for x in found.values())
+        self.lines.append([name, "MISSED" if over else "met", most, said])
+
+    def print(self):
+        """The targets as a table, and the status that the program is to end with."""
+        met = sum(line[1] == "met" for line in self.lines)
+        print()
+        print_table(self.head, self.lines)
+        print(f"\n{met} of {len(self.lines)} targets met")
+        for line in self.missed:
+            print(f"missed: {line}")
+        return 1 if self.missed else 0
+
+
+def ns(t):
+    """Nanoseconds as they are worth printing."""
+    return f"{t:.2f}" if t < 10 else f"{t:.1f}" if t < 1000 else f"{t:.0f}"
 
 
 def nm():
@@ -79,6 +144,13 @@ def header_folders(cc):
     """Where the C compiler looks for headers: the kit's clang has none of its own."""
     said = subprocess.run([cc, "-E", "-v", "-x", "c", "/dev/null"], capture_output=True, text=True).stderr
     return re.search(r"#include <...> search starts here:\n((?: .*\n)+)", said).group(1).split()
+
+
+def compile_plain(clang, cc, source, made):
+    """C that stands beside ours, by the kit's clang."""
+    words = [w for h in header_folders(cc) for w in ("-isystem", h)] + ["-I", top / "include", "-c", source, "-o", made]
+    sh(clang, "--target=x86_64-linux-gnu", "-std=c11", "-O3", "-nostdinc", *words)
+    return made
 
 
 def build_libopus(clang, cc, folder):
