@@ -44,7 +44,6 @@ use Rattle.opus.specs.Answers.{noPacket, packetNumber, packetOf, parsed, answer
 use Rattle.opus.specs.declared.Packet.{Packet}
 use Rattle.opus.specs.declared.PacketHead.{PacketHead}
 use Rattle.opus.proofs.AtPacket.{parse-long, parse-read}
-use Rattle.opus.proofs.AtShort.{ShortRead}
 use Rattle.opus.proofs.AtEqual.{EqualRead}
 use Rattle.opus.proofs.Lent.{lent-accepted}
 use Rattle.opus_format.proofs.Facts.{facts}
@@ -89,35 +88,39 @@ module _ (sd : Bool) (p : List ℕ) (h : PacketHead) (l : List ℕ) where
     pub record-unread : {c : Refusal} → h .verdict ≡ Refused c → packetRecord (noPacket c) ≡ packetRecord (parsed sd p)
     record-unread {c} v = ap packetRecord (sym (refused-zeros sd p c (ap (λ (r : Packet). r .verdict) (sym e) ∙ v)))
 
--- ---- an ordinary packet, by what was read of it without an array: its frames, or the rule that it breaks
-module _ (p : List ℕ) where
-  read-record : (ns : List ℕ) (first : ℕ) → ShortRead p ns first → {r : Report} → r ≡ plain (pos (length ns))
-      → record { report = r; lengths = padded48 ns; toc = getD p 0 0; «payload_offset» = first; «packet_offset» = length p }
-      ≡ packetRecord (parsed false p)
-  read-record ns first s e = rw (← parse-read false p (s .short), s .means, e, s .whole)
+-- ---- a packet, by what was read of it without an array: its frames, or the rule that it breaks
+module _ (sd : Bool) (p : List ℕ) where
+  pub long-record : 65535 < length p → packetRecord (noPacket BadArg) ≡ packetRecord (parsed sd p)
+  long-record h = ap packetRecord (parse-long sd p h)
 
-  pub one-record : (n first : ℕ) → ShortRead p (n ∷ []) first → {r : Report} → r ≡ plain (pos 1)
-      → record { report = r; lengths = set (padded48 []) 0 n; toc = getD p 0 0; «payload_offset» = first; «packet_offset» = length p }
-      ≡ packetRecord (parsed false p)
-  one-record n first s e = read-record (n ∷ []) first s e
+  module _ (h : length p ≤ 65535) where
+    read-record : (ns : List ℕ) (first taken : ℕ) → read sd p ≡ accepted (getD p 0 0) ns first taken
+        → {r : Report} {l : List ℕ} {end : ℕ} → r ≡ plain (pos (length ns)) → l ≡ padded48 ns → end ≡ taken
+        → record { report = r; lengths = l; toc = getD p 0 0; «payload_offset» = first; «packet_offset» = end } ≡ packetRecord (parsed sd p)
+    read-record ns first taken m e q t = rw (← parse-read sd p h, m, e, q, t)
 
-  pub two-record : (m n first : ℕ) → ShortRead p (m ∷ n ∷ []) first → {r : Report} → r ≡ plain (pos 2)
-      → record { report = r; lengths = set (set (padded48 []) 0 m) 1 n; toc = getD p 0 0; «payload_offset» = first; «packet_offset» = length p }
-      ≡ packetRecord (parsed false p)
-  two-record m n first s e = read-record (m ∷ n ∷ []) first s e
+    pub one-record : (n first taken : ℕ) → read sd p ≡ accepted (getD p 0 0) (n ∷ []) first taken
+        → {r : Report} {end : ℕ} → r ≡ plain (pos 1) → end ≡ taken
+        → record { report = r; lengths = set (padded48 []) 0 n; toc = getD p 0 0; «payload_offset» = first; «packet_offset» = end }
+        ≡ packetRecord (parsed sd p)
+    one-record n first taken m e t = read-record (n ∷ []) first taken m e refl t
 
-  pub same-record : length p ≤ 65535 → (n each first : ℕ) → EqualRead p n each first → {r : Report} {l : List ℕ} → r ≡ plain (pos n)
-      → l ≡ padded48 (replicate n each)
-      → record { report = r; lengths = l; toc = getD p 0 0; «payload_offset» = first; «packet_offset» = length p } ≡ packetRecord (parsed false p)
-  same-record h n each first s e q = rw (← parse-read false p h, s .means, e, q, length-replicate n each)
+    pub two-record : (m n first taken : ℕ) → read sd p ≡ accepted (getD p 0 0) (m ∷ n ∷ []) first taken
+        → {r : Report} {end : ℕ} → r ≡ plain (pos 2) → end ≡ taken
+        → record { report = r; lengths = set (set (padded48 []) 0 m) 1 n; toc = getD p 0 0; «payload_offset» = first; «packet_offset» = end }
+        ≡ packetRecord (parsed sd p)
+    two-record m n first taken k e t = read-record (m ∷ n ∷ []) first taken k e refl t
 
-  pub long-record : 65535 < length p → packetRecord (noPacket BadArg) ≡ packetRecord (parsed false p)
-  long-record h = ap packetRecord (parse-long false p h)
+    pub broken-record : (rule : Rule) (place : ℕ) → read sd p ≡ refused rule place → {e : Refusal} → e ≡ ruleRefusal rule place
+        → packetRecord (noPacket e) ≡ packetRecord (parsed sd p)
+    broken-record rule place q r = rw (← parse-read sd p h, q, r)
 
-  pub broken-record : length p ≤ 65535 → (rule : Rule) (place : ℕ) → read false p ≡ refused rule place
-      → {e : Refusal} → e ≡ ruleRefusal rule place
-      → packetRecord (noPacket e) ≡ packetRecord (parsed false p)
-  broken-record h rule place q r = rw (← parse-read false p h, q, r)
+-- one of code 3 with frames of one length
+pub same-record : (p : List ℕ) → length p ≤ 65535 → (n each first : ℕ) → EqualRead p n each first → {r : Report} {l : List ℕ} → r ≡ plain (pos n)
+    → l ≡ padded48 (replicate n each)
+    → record { report = r; lengths = l; toc = getD p 0 0; «payload_offset» = first; «packet_offset» = length p } ≡ packetRecord (parsed false p)
+same-record p h n each first s e q =
+    read-record false p h (replicate n each) first (length p) (s .means) (e ∙ ap (λ (k : ℕ). plain (pos k)) (sym (length-replicate n each))) q refl
 
 -- a field of one or two bytes, whatever rule asks for it
 told-few : (rule : Rule) (s : List ℕ) → Bytes s → sizeTold rule s .bytes ≤ 2

@@ -109,11 +109,46 @@ fn whole_packet(p: PacketHead, lengths: [u16; 48]) -> AveluafiPacket
     }
 }
 
-// The packet in the named delimiting.
+// The packet in the named delimiting. A self-delimited one of code 0, 1 or 2 is read without an array; the ordinary form has the call below.
 #[no_mangle]
 pub extern "C" fn aveluafi_packet_parse_impl(data: &[u8], self_delimited: bool) -> AveluafiPacket
     ensures { λ r. ⌜ r ≡ packetRecord (parsed «self_delimited» (now («data» .entry))) ⌝ }
 {
+    if opus::MOST_PACKET < data.len() {
+        return no_packet(Refusal::BadArg);
+    }
+    if self_delimited {
+        let s = opus::own::own_at(data);
+        match s {
+            Short::One(size, first) => {
+                let mut lengths = [0u16; 48];
+                lengths[0] = size;
+                return AveluafiPacket {
+                    report: opus_defines::report_of(Answer::Number(1)),
+                    lengths,
+                    toc: data[0],
+                    payload_offset: first,
+                    packet_offset: first + (size as usize),
+                };
+            }
+            Short::Two(size, last, first) => {
+                let mut lengths = [0u16; 48];
+                lengths[0] = size;
+                lengths[1] = last;
+                return AveluafiPacket {
+                    report: opus_defines::report_of(Answer::Number(2)),
+                    lengths,
+                    toc: data[0],
+                    payload_offset: first,
+                    packet_offset: first + (size as usize) + (last as usize),
+                };
+            }
+            Short::Broken(rule, place) => {
+                return no_packet(opus_defines::rule_refusal(rule, place));
+            }
+            Short::Counted => {}
+        }
+    }
     let mut lengths = [0u16; 48];
     let p = opus::read_into(data, self_delimited, &mut lengths);
     let v = p.verdict;

@@ -45,9 +45,9 @@ shortOf (accepted toc (n ∷ []) first taken) = One n first
 shortOf (accepted toc (m ∷ n ∷ []) first taken) = Two m n first
 shortOf (accepted toc (m ∷ n ∷ k ∷ ns) first taken) = Counted
 
--- `short_at`: an ordinary packet, but for code 3
-unfoldable pub shortAt : List ℕ → Short
-shortAt p = cond (eqb (code (getD p 0 0)) 3) Counted (shortOf (read false p))
+-- a packet but for code 3: `short_at` reads an ordinary one, `own_at` a self-delimited one
+unfoldable pub shortAt : Bool → List ℕ → Short
+shortAt sd p = cond (eqb (code (getD p 0 0)) 3) Counted (shortOf (read sd p))
 
 -- so many bytes shared by frames of equal lengths, from a place on
 abbrev pub sharedAt : ℕ → ℕ → ℕ → Equal

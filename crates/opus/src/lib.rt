@@ -1,6 +1,7 @@
 // The packet reader in both delimitings (RFC 6716, sections 3.2 to 3.4 and appendix B): `opus_packet_parse_impl` and
 // `opus_packet_parse` of opus.rs. A packet's frames lie one behind another, so the answer has their lengths and the first one's place.
 pub mod code_3;
+pub mod own;
 
 ghost use mathlib.Core.Path.{_≡_};
 ghost use mathlib.Core.Bool.{false};
@@ -256,7 +257,7 @@ fn read_packet(data: &[u8], self_delimited: bool, lengths: &mut [u16; 48]) -> Pa
     }
 }
 
-// An ordinary packet of one or two frames: their lengths, and the place of the first; or the rule that is broken and where. `Counted` is code 3, which
+// A packet of one or two frames: their lengths, and the place of the first; or the rule that is broken and where. `Counted` is code 3, which
 // `read_into` reads.
 pub enum Short {
     One(u16, usize),
@@ -317,7 +318,7 @@ fn two_unequal(data: &[u8]) -> Short
 // Reads an ordinary packet of code 0, 1 or 2 without an array for its lengths, which costs more than the reading itself. The code is told bit by bit: of
 // a `match` a table of jumps would be made.
 pub fn short_at(data: &[u8]) -> Short
-    ensures { λ r. ⌜ r ≡ shortAt (now («data» .entry)) ⌝ }
+    ensures { λ r. ⌜ r ≡ shortAt false (now («data» .entry)) ⌝ }
 {
     if data.len() == 0 {
         return Short::Broken(Rule::R1, 0);

@@ -33,7 +33,7 @@ use Rattle.packet_judge.specs.declared.Judged.the-variants.{Clean}
 use Rattle.packet_judge.proofs.Verdicts.{says-clean, judged-short, least-short}
 
 -- the code is not 3
-uncounted : (p : List ℕ) (r : Short) → r ≡ shortAt p → (r ≡ Counted → ⊥) → code (getD p 0 0) ≡ 3 → ⊥
+uncounted : (p : List ℕ) (r : Short) → r ≡ shortAt false p → (r ≡ Counted → ⊥) → code (getD p 0 0) ≡ 3 → ⊥
 unfolding shortAt
 uncounted p r e n c = n (rw (e, eq-eqb (code (getD p 0 0)) 3 c))
 
@@ -117,7 +117,7 @@ module _ (p : List ℕ) (bytes : Bytes p) (c : code (getD p 0 0) ≡ 3 → ⊥) 
   differing-head e = rw (spelled .lengths-are) at (spelled .place ∙ differing (spelled .packet .layout) own-code (rw (spelled .lengths-are) e))
 
 -- ---- by what `short_at` answered
-module _ (p : List ℕ) (bytes : Bytes p) (r : Short) (e : r ≡ shortAt p) where
+module _ (p : List ℕ) (bytes : Bytes p) (r : Short) (e : r ≡ shortAt false p) where
   pub one-clean : (n first : ℕ) → r ≡ One n first → (Clean ≡ judged false p) × (length p ≡ leastLength false p)
   unfolding sumsOf
   one-clean n first a =

@@ -4,13 +4,13 @@
 --     held-.., none-checked, check-..      its tests as the code goes through them
 --     fits-.., told-..                     the tests of a head, and what is told by words
 -- Assumes nothing.
-use Prim.Native.Nat.{ℕ, zero, suc, _*_, _%_, _≤_, _<_}
+use Prim.Native.Nat.{ℕ, _*_, _%_, _≤_, _<_}
 use native.Mathlib.Omega.{arith}
 use mathlib.Core.Path.{_≡_, refl, sym, _∙_}
 use mathlib.Core.Bool.{Bool, true, false}
 use lib.Dec.{leb, eqb}
 use lib.ListN.{length, take}
-use mathlib.Core.List.{List, [], _∷_}
+use mathlib.Core.List.{List}
 use borrow.Author.Tests.{leb-true, le-leb, lt-leb, eqb-true, eqb-false, eq-eqb, ne-eqb}
 use Rattle.laws.proofs.Never.{by-test}
 use Rattle.laws.proofs.Every.{both-left, both-right}
@@ -100,11 +100,6 @@ module _ (h : Head) (each : ℕ) (e : each ≡ samples 8000 (configuration (h .t
   fits-time f q = rw (← e, eq-eqb (h .framesize .0) each f, f) q
 
 -- ---- lengths and numbers that were told by words
-pub take-few : (n : ℕ) (l : List ℕ) → length (take n l) ≤ n
-take-few zero l = omega arith
-take-few (suc n) [] = omega arith
-take-few (suc n) (a ∷ l) = omega (arith, take-few n l)
-
 module _ (ns ks : List ℕ) (few : length ns ≤ 48) (t : ℕ) (e : t ≡ told ns ks) where
   small-sum : keptWell ns ks ≡ true → total ns < 65535
   small-sum w = omega (arith, total-most ns (leb-true (longest ns) mostBytes (both-left (leb (longest ns) mostBytes) (numbered ks) w)))

@@ -1,6 +1,7 @@
 -- `packet_judge::weigh_packet` meets its contract: by what was read without an array, and any other packet is read whole.
 -- Assumes nothing.
 use mathlib.Core.Path.{sym}
+use mathlib.Core.Bool.{false}
 use borrow.Author.Needs.{needs}
 use Rattle.laws.specs.Bytes.{Bytes}
 use Rattle.opus.proofs.AtShort.{none-read}
@@ -51,7 +52,7 @@ returns-6 c =
     let k = c .before .before .before .before in
     let p = entry k .args .«data» .now in
     let s = c .before .before .s2 in
-    let unread = none-read p (bytes k) (k .short-at .result) (k .short-at .ensures) _ _ (s .given .1) in
+    let unread = none-read false p (bytes k) (k .short-at .result) (k .short-at .ensures) _ _ (s .given .1) in
     rw (k .before .if1 .left) (sym (unreadable-said _ p (c .if3 .left) _ _ unread), sym (least-unread _ p _ _ unread))
 
 returns-7 : tie.Need-returns-7

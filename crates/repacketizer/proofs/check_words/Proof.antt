@@ -6,10 +6,10 @@ use mathlib.Core.Bool.{true}
 use native.Mathlib.Omega.{arith}
 use borrow.Author.Needs.{needs}
 use borrow.Author.Tests.{not-true, not-false}
-use lib.ListN.{length, take}
+use lib.ListN.{length, take, length-take}
 use Rattle.repacketizer.specs.declared.OpusRepacketizer.{OpusRepacketizer}
 use Rattle.repacketizer.specs.Parts.{headOf, collectorOf, headFits}
-use Rattle.repacketizer.proofs.Checks.{none-checked, check-unfit, check-few, check-held, take-few, told-unsound, told-sound}
+use Rattle.repacketizer.proofs.Checks.{none-checked, check-unfit, check-few, check-held, told-unsound, told-sound}
 use Rattle.repacketizer.proofs.check_words.Statement.{statement}
 use Rattle.repacketizer.proofs.check_words.Tie as tie
 
@@ -58,7 +58,7 @@ tell-requires c κs = (omega (arith, passed c .if1 .left), few c)
 held-few : (c : tie.Else2) → let w = some (passed c) in length (take (w .wide .result) (entry w .args .len .now)) ≤ 48
 held-few c =
     let w = some (passed c) in
-    omega (arith, few c, take-few (w .wide .result) (entry w .args .len .now))
+    omega (arith, few c, length-take (w .wide .result) (entry w .args .len .now))
 
 returns-3 : tie.Need-returns-3
 returns-3 c =

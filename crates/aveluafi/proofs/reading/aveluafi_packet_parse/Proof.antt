@@ -1,7 +1,7 @@
 -- `aveluafi::reading::aveluafi_packet_parse` meets its contract: each arm is the record of what was read, and any other packet is read whole.
 -- Assumes nothing.
 use native.Mathlib.Omega.{arith}
-use mathlib.Core.Path.{_≡_, ap, _∙_}
+use mathlib.Core.Path.{_≡_, sym, ap, _∙_}
 use mathlib.Core.Bool.{false}
 use mathlib.Core.List.{[], _∷_}
 use borrow.Author.Needs.{needs}
@@ -36,7 +36,9 @@ shared-slice-read-t29 c =
 returns : tie.Need-returns
 returns c =
     let s = c .before .before .before in
-    one-record (s .before .before .before .before .args .«data» .now) _ _ (one s) (c .before .report-of .ensures)
+    let k = one s in
+    one-record false (s .before .before .before .before .args .«data» .now) (k .short) _ _ (k .taken) (k .means) (c .before .report-of .ensures)
+    (sym (k .whole))
 
 two : (c : tie.After-s2)
     → let k = c .before .before in
@@ -53,7 +55,9 @@ shared-slice-read-t39 c =
 returns-2 : tie.Need-returns-2
 returns-2 c =
     let s = c .before .before .before in
-    two-record (s .before .before .before .before .args .«data» .now) _ _ _ (two s) (c .before .report-of2 .ensures)
+    let k = two s in
+    two-record false (s .before .before .before .before .args .«data» .now) (k .short) _ _ _ (k .taken) (k .means) (c .before .report-of2 .ensures)
+    (sym (k .whole))
 
 -- a packet that breaks a rule
 none : (c : tie.After-s3)
@@ -61,12 +65,12 @@ none : (c : tie.After-s3)
     read false (k .before .before .args .«data» .now) ≡ refused (c .s3 .given .0 .0) (c .s3 .given .0 .1 .0)
 none c =
     let k = c .before .before in
-    none-read (k .before .before .args .«data» .now) (bytes k) (k .short-at .result) (k .short-at .ensures) _ _ (c .s3 .given .1)
+    none-read false (k .before .before .args .«data» .now) (bytes k) (k .short-at .result) (k .short-at .ensures) _ _ (c .s3 .given .1)
 
 returns-3 : tie.Need-returns-3
 returns-3 c =
     let s = c .before .before .before in
-    c .no-packet .ensures ∙ long-record (s .before .before .before .before .args .«data» .now) (c .before .if1 .taken)
+    c .no-packet .ensures ∙ long-record false (s .before .before .before .before .args .«data» .now) (c .before .if1 .taken)
 
 rule-refusal-requires : tie.Need-rule-refusal-requires
 rule-refusal-requires c κs =
@@ -78,7 +82,7 @@ returns-4 c =
     let i = c .before .before in
     let s = i .before .before in
     c .no-packet2 .ensures
-    ∙ broken-record (s .before .before .before .before .args .«data» .now) (i .if1 .left) _ _ (none s) (c .before .rule-refusal .ensures)
+    ∙ broken-record false (s .before .before .before .before .args .«data» .now) (i .if1 .left) _ _ (none s) (c .before .rule-refusal .ensures)
 
 -- code 3, of a packet that is not too long
 abbrev counted : tie.After-equal-at → tie.After-short-at
@@ -87,7 +91,7 @@ counted c = let i = c .before in i .before .before .before
 returns-5 : tie.Need-returns-5
 returns-5 c =
     let i = c .before in
-    c .no-packet3 .ensures ∙ long-record (i .before .before .before .before .before .args .«data» .now) (i .if2 .taken)
+    c .no-packet3 .ensures ∙ long-record false (i .before .before .before .before .before .args .«data» .now) (i .if2 .taken)
 
 same : (c : tie.After-e)
     → let k = counted (c .before .before) in
@@ -142,7 +146,7 @@ returns-7 c =
     let s = c .before .before .before in
     let q = s .before .before in
     c .no-packet4 .ensures
-    ∙ broken-record (counted q .before .before .args .«data» .now) (q .before .if2 .left) _ _ (wrong s) (c .before .rule-refusal2 .ensures)
+    ∙ broken-record false (counted q .before .before .args .«data» .now) (q .before .if2 .left) _ _ (wrong s) (c .before .rule-refusal2 .ensures)
 
 abbrev entry : tie.After-read-into → tie.After-short-at
 entry c = counted (c .before .before .before .before)
