@@ -219,7 +219,7 @@ pub extern "C" fn aveluafi_packet_parse(data: &[u8]) -> AveluafiPacket
         Equal::Other => {}
     }
     let mut lengths = [0u16; 48];
-    let p = opus::read_into(data, false, &mut lengths);
+    let p = opus::read_packet(data, false, &mut lengths);
     let v = p.verdict;
     let Verdict::Refused(e) = v else {
         return whole_packet(p, lengths);

@@ -7,7 +7,7 @@ use Prim.Native.Nat.{ℕ, _+_, _*_, _-_, _/_, _%_, _≤_, _<_}
 use native.Mathlib.Omega.{arith}
 use mathlib.Core.Path.{_≡_, refl, sym, ap, _∙_}
 use mathlib.Core.List.{List, [], _∷_}
-use mathlib.Core.Bool.{true, false, cond, _&&_}
+use mathlib.Core.Bool.{true, false, cond}
 use lib.Dec.{ltb, leb, eqb}
 use lib.ListN.{length, getD, drop, replicate, length-replicate, getD-replicate}
 use borrow.Author.Tests.{lt-ltb, le-ltb, eq-eqb, ne-eqb, eqb-true}
@@ -26,7 +26,7 @@ use Rattle.opus_parts.specs.declared.padding_at.PaddingAt.the-variants.{Whole, 
 use Rattle.opus.specs.Answers.{sharedAt, equalOf, equalAt}
 use Rattle.opus.specs.declared.code_3.Equal.{Equal}
 use Rattle.opus.specs.declared.code_3.Equal.the-variants.{Same, Wrong, Other}
-use Rattle.opus.proofs.AtPacket.{part, body, padding, body-refused, body-reads, body-room, all-bytes, inner, frames-equal, lasts-is, three-is, by-code}
+use Rattle.opus.proofs.AtPacket.{part, body, padding, body-refused, body-reads, all-bytes, inner, frames-equal, lasts-is, three-is, by-code}
 use Rattle.opus.proofs.AtShort.{all-taken}
 
 -- ---- the bytes that are shared

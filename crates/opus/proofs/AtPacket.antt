@@ -3,18 +3,18 @@
 --     uneven-..                           code 3 with its flag for unequal lengths
 --     rule-.., body-..                    code 3 behind its count byte
 --     three-..                            code 3: its count byte, and 120 ms counted in samples
---     no-fields, two-..                   codes 0 and 2: no length field, and one
+--     no-fields, one-field, two-..        codes 0 and 2: no length field, and one
 --     code-.., ..-fits                    a packet by its code, and that its frames end within it
 --     parse-..                            what the reader answers, by the tests on the length
 -- Assumes nothing.
 use Prim.Native.Nat.{ℕ, zero, suc, _+_, _*_, _-_, _/_, _%_, _≤_, _<_}
 use native.Mathlib.Omega.{arith}
 use native.Mathlib.Nat.{add-zero, mul-le-mul-left}
-use mathlib.Core.Path.{_≡_, refl, sym, ap, _∙_}
+use mathlib.Core.Path.{_≡_, refl, sym, ap}
 use mathlib.Core.List.{List, [], _∷_}
 use mathlib.Core.Bool.{Bool, true, false, cond}
 use lib.Dec.{ltb, leb}
-use lib.ListN.{length, getD, take, drop, length-drop}
+use lib.ListN.{length, getD, take, drop, set, length-drop}
 use lib.Seq.{drop-drop, length-take-le}
 use borrow.Author.Tests.{lt-ltb, le-ltb, leb-true}
 use borrow.Rule.Slice.PartAt.{part-to-end}
@@ -29,11 +29,11 @@ use Rattle.opus_toc.proofs.Samples.{lasts-at}
 use Rattle.opus_format.specs.Frames.{total, padded48}
 use Rattle.opus_defines.specs.declared.Rule.{Rule}
 use Rattle.opus_defines.specs.declared.Rule.the-variants.{R1, R2, R3, R4, R5, R6, R7}
-use Rattle.opus_format.specs.Reading.{Front, broken, front, Fields, noFields, fields, thenFields, readFields, together}
+use Rattle.opus_format.specs.Reading.{Front, broken, front, noFields, fields, readFields, together}
 use Rattle.opus_format.specs.Reading.{unequal, equal, readPadding, frames3, sizeRule, lasts, pointed}
 use Rattle.opus_format.specs.Reading.{Reading, refused, accept, behindPadding, read3, readCode, read}
 use Rattle.opus.specs.Answers.{noPacket, packetOf, parsed, answerOf}
-use Rattle.opus_parts.specs.Parts.{sizesAt, SizesRead, stopAt, framesAt, framesLent, FramesRead, endOf, paddingAt}
+use Rattle.opus_parts.specs.Parts.{sizesAt, SizesRead, framesAt, framesLent, FramesRead, endOf, paddingAt}
 use Rattle.opus.specs.Heads.{noHead, headAt}
 use Rattle.opus_parts.specs.declared.frames_at.FramesAt.{FramesAt}
 use Rattle.opus_parts.specs.declared.frames_at.FramesAt.the-variants.{At, Broken}
@@ -41,7 +41,8 @@ use Rattle.opus_parts.specs.declared.padding_at.PaddingAt.the-variants.{Whole, 
 use Rattle.opus_parts.specs.declared.sizes_at.SizesAt.the-variants.{All, Cut}
 use Rattle.opus.specs.declared.Packet.{Packet}
 use Rattle.opus.specs.declared.PacketHead.{PacketHead}
-use Rattle.opus_parts.proofs.AtSizes.{none-known, stops-there}
+use Rattle.opus_size.proofs.At.{Found}
+use Rattle.opus_parts.proofs.AtSizes.{place-is, none-known}
 use Rattle.opus_parts.proofs.AtFrames.{Within, unequal-within, equal-within}
 use Rattle.opus_parts.proofs.AtPadding.{Padded, padding-was}
 
@@ -60,7 +61,7 @@ pub end-broken : (f : FramesAt) (r : Rule) (place : ℕ) → f ≡ Broken r plac
 end-broken f r place e = rw e
 
 -- the place of what breaks in the n bytes behind `at` bytes, where m bytes are these and the padding; the field concerned is within them
-pub head-place : (m n at pad k : ℕ) → k ≤ n → m ≡ at + n + pad → m - pad - k ≡ at + (n - k)
+head-place : (m n at pad k : ℕ) → k ≤ n → m ≡ at + n + pad → m - pad - k ≡ at + (n - k)
 head-place m n at pad k h e = omega arith
 
 -- m bytes are `at` bytes, n bytes in which the frames were read, and the padding
@@ -91,26 +92,20 @@ cut-refused : (s : List ℕ) (sd : Bool) (r : Rule) (k m toc pad place : ℕ) (t
     → noPacket (ruleRefusal r place) ≡ packetOf (accept m toc pad (unequal sd r k s))
 cut-refused s sd r k m toc pad place t q e = rw (q, e)
 
-stop-within : (m : ℕ) (f : Fields) → stopAt m f ≤ m
-stop-within m (noFields t) = omega arith
-stop-within m (fields ns t) = omega arith
-
 -- ---- code 3 with its flag for unequal lengths, whose frames stand in s behind `at` bytes
-pub uneven-place : (s : List ℕ) (k place : ℕ) → place ≡ stopAt (length s) (readFields k s) → place ≤ length s
-uneven-place s k place e = rw e (stop-within (length s) (readFields k s))
+pub uneven-place : (s : List ℕ) (k place : ℕ) → Cut place ≡ sizesAt (length s) (together (readFields k s)) → place ≤ length s
+uneven-place s k place c = omega (arith, none-known s k place c .2)
 
 module _ (s : List ℕ) (sd : Bool) (toc count at pad : ℕ) (one : 1 ≤ count) where
   uneven-within : Within (length s) count (unequal sd R7 (count - 1) s)
   uneven-within = unequal-within s count sd R7 (count - 1) (omega arith)
 
-  pub uneven-cut : Cut ≡ sizesAt (length s) (together (readFields (count - 1) s))
-      → (place : ℕ) → place ≡ stopAt (length s) (readFields (count - 1) s)
+  pub uneven-cut : (place : ℕ) → Cut place ≡ sizesAt (length s) (together (readFields (count - 1) s))
       → noPacket (ruleRefusal R7 (at + place)) ≡ packetOf (accept (at + length s + pad) toc pad (unequal sd R7 (count - 1) s))
-  uneven-cut c place e =
-      let b = none-known s (count - 1) c in
+  uneven-cut place c =
+      let b = none-known s (count - 1) place c in
       let inside : length (b .0) ≤ length s = rw (b .1) at uneven-within in
-      let there : place ≡ length s - length (b .0) = e ∙ stops-there s (count - 1) (b .0) (b .1) in
-      cut-refused s sd R7 (count - 1) (at + length s + pad) toc pad (at + place) (b .0) (b .1) (omega arith)
+      cut-refused s sd R7 (count - 1) (at + length s + pad) toc pad (at + place) (b .0) (b .1) (omega (arith, b .2))
 
   module _ (f : FramesAt) (l : List ℕ) (g : FramesRead s (unequal sd R7 (count - 1) s) f l) where
     pub uneven-fits : at + endOf f + pad ≤ at + length s + pad
@@ -296,15 +291,22 @@ no-fields s l e =
     let start : length s - length s ≡ 0 = omega arith in
     rw (none, start) (refl, e)
 
--- one field breaks at its own first byte
-one-cut : (s t : List ℕ) → together (readFields 1 s) ≡ noFields t → t ≡ s
-one-cut s t e = go (readField s) e
-  where
-    go : (f : Field) → together (thenFields (readFields 0) s f) ≡ noFields t → t ≡ s
-    go noField q = cc
-    go (field n u) q =
-        by-test (ltb (length u) n) (λ b. let p = rw b at q in cc)
-        (λ b. never (let p = rw (b, add-zero n, b) at q in cc))
+-- one field: its length by itself is the sum
+module _ (s : List ℕ) where
+  one-none : readField s ≡ noField → together (readFields 1 s) ≡ noFields s
+  one-none e = rw e
+
+  module _ (n next : ℕ) (f : Found s 0 n next) where
+    one-over : length s - next < n → together (readFields 1 s) ≡ noFields s
+    one-over h =
+        let over : ltb (length (drop next s)) n ≡ true = lt-ltb (length (drop next s)) n (omega (arith, length-drop next s)) in
+        rw (f .means, over)
+
+    pub one-field : n ≤ length s - next → (l : List ℕ) → l ≡ padded48 [] → SizesRead s (together (readFields 1 s)) (All next n) (set l 0 n)
+    one-field h l e =
+        let fits : ltb (length (drop next s)) n ≡ false = le-ltb (length (drop next s)) n (omega (arith, length-drop next s)) in
+        let all : together (readFields 1 s) ≡ fields (n ∷ []) (drop next s) = rw (f .means, fits, add-zero n, fits) in
+        rw (all, place-is s next (f .within), e) (ap (All next) (sym (add-zero n)), refl)
 
 module _ (sd : Bool) (d : List ℕ) (h : 1 ≤ length d) where
   module _ (k count : ℕ) (c : k + 1 ≡ count) (r : Rule) (f : FramesAt) (l : List ℕ)
@@ -326,12 +328,19 @@ module _ (sd : Bool) (d : List ℕ) (h : 1 ≤ length d) where
     pub code-1 : (x : PacketHead) → x ≡ headAt (getD d 0 0) 2 1 0 f → getD d 0 0 % 4 ≡ 1 → answerOf x l ≡ packetOf (read sd d)
     code-1 x y e = rw (y, by-code sd d h, e) (rest-read d h 2 (equalIn sd) (λ s. equal-within s 2 sd R3) f l g)
 
-  pub two-cut : Cut ≡ sizesAt (length (part d 1 (length d))) (together (readFields 1 (part d 1 (length d))))
+  two-cut : together (readFields 1 (part d 1 (length d))) ≡ noFields (part d 1 (length d))
       → noPacket (ruleRefusal R4 1) ≡ packetOf (accept (length d) (getD d 0 0) 0 (unequal sd R4 1 (drop 1 d)))
   two-cut c =
-      let b = none-known (drop 1 d) 1 (rw (part-to-end d 1) at c) in
-      let front : b .0 ≡ drop 1 d = one-cut (drop 1 d) (b .0) (b .1) in
-      cut-refused (drop 1 d) sd R4 1 (length d) (getD d 0 0) 0 1 (b .0) (b .1) (rw front (omega (arith, length-drop 1 d)))
+      let b : together (readFields 1 (drop 1 d)) ≡ noFields (drop 1 d) = rw (part-to-end d 1) at c in
+      cut-refused (drop 1 d) sd R4 1 (length d) (getD d 0 0) 0 1 (drop 1 d) b (omega (arith, length-drop 1 d))
+
+  pub two-none : readField (part d 1 (length d)) ≡ noField
+      → noPacket (ruleRefusal R4 1) ≡ packetOf (accept (length d) (getD d 0 0) 0 (unequal sd R4 1 (drop 1 d)))
+  two-none e = two-cut (one-none (part d 1 (length d)) e)
+
+  pub two-over : (n next : ℕ) → Found (part d 1 (length d)) 0 n next → length (part d 1 (length d)) - next < n
+      → noPacket (ruleRefusal R4 1) ≡ packetOf (accept (length d) (getD d 0 0) 0 (unequal sd R4 1 (drop 1 d)))
+  two-over n next f over = two-cut (one-over (part d 1 (length d)) n next f over)
 
   pub two-read : (f : FramesAt) (l : List ℕ) → FramesRead (part d 1 (length d)) (unequalIn sd R4 1 (part d 1 (length d))) f l
       → (x : PacketHead) → x ≡ headAt (getD d 0 0) 2 1 0 f

@@ -109,6 +109,11 @@ module _ (sd : Bool) where
   short-empty [] e = refl
   short-empty (a ∷ d) e = absurd (omega arith)
 
+  -- code 3 has a byte
+  pub counted-some : (d : List ℕ) → Counted ≡ shortAt sd d → 1 ≤ length d
+  counted-some [] e = never (let p = e ∙ sym (short-empty [] refl) in cc)
+  counted-some (a ∷ d) e = omega arith
+
 -- the code is not 3 where one of its two bits is not set
 module _ (sd : Bool) (d : List ℕ) where
   short-read : (code (getD d 0 0) ≡ 3 → ⊥) → {r : Short} → r ≡ shortOf (read sd d) → r ≡ shortAt sd d

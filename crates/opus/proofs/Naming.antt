@@ -1,26 +1,21 @@
 -- What an answer says of a packet that the reader refused.
---     plain-named      an answer without rule and place
 --     rule-named       the refusal of a rule, in a packet from a place of the bytes on
 --     reading-named    what the reader answers
 -- Assumes nothing.
-use Prim.Native.Nat.{ℕ, _+_, _≤_}
+use Prim.Native.Nat.{ℕ, _+_}
 use native.Mathlib.Nat.{zero-add}
-use mathlib.Core.Path.{_≡_, refl, ap}
+use mathlib.Core.Path.{_≡_, refl}
 use mathlib.Core.List.{List}
 use mathlib.Core.Bool.{Bool}
 use lib.Dec.{ltb}
-use lib.IntN.{ℤ}
 use lib.ListN.{length, drop}
 use Rattle.laws.proofs.Never.{by-test}
-use Rattle.opus_defines.specs.Numbers.{plain, refusalReport, verdictReport}
+use Rattle.opus_defines.specs.Numbers.{refusalReport, verdictReport}
 use Rattle.opus_defines.specs.Rules.{ruleRefusal}
 use Rattle.opus_defines.specs.declared.Rule.{Rule}
 use Rattle.opus_format.specs.Reading.{Reading, refused, accepted, read}
 use Rattle.opus.specs.Answers.{packetOf, parsed}
 use Rattle.opus.specs.Named.{Named, unnamed, named}
-
-pub plain-named : (p : List ℕ) (n : ℤ) → Named p (plain n)
-plain-named p n = unnamed refl refl
 
 pub rule-named : (p : List ℕ) (sd : Bool) (at : ℕ) (rule : Rule) (place : ℕ) → read sd (drop at p) ≡ refused rule place
     → Named p (refusalReport (ruleRefusal rule (at + place)))

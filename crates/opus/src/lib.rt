@@ -26,7 +26,6 @@ use opus_parts::frames_at::last_frame;
 use opus_parts::padding_at::PaddingAt;
 use opus_parts::padding_at::read_padding;
 use opus_parts::sizes_at::SizesAt;
-use opus_parts::sizes_at::break_at;
 use opus_parts::sizes_at::read_sizes;
 use opus_size::SizeAt;
 
@@ -157,16 +156,16 @@ fn unequal_3(
 {
     let k = count - 1;
     let f = read_sizes(s, k, lengths);
-    let SizesAt::All(next, sum) = f else {
-        return broken_head(Rule::R7, at + break_at(s, k));
-    };
-    packet_at(
-        toc,
-        count,
-        at,
-        pad,
-        last_frame(s, next, sum, k, self_delimited, lengths),
-    )
+    match f {
+        SizesAt::Cut(place) => broken_head(Rule::R7, at + place),
+        SizesAt::All(next, sum) => packet_at(
+            toc,
+            count,
+            at,
+            pad,
+            last_frame(s, next, sum, k, self_delimited, lengths),
+        ),
+    }
 }
 
 // The packet of code 3 behind its count byte: padding lengths, then frames up to the padding.
@@ -214,7 +213,8 @@ fn read_3(data: &[u8], self_delimited: bool, lengths: &mut [u16; 48]) -> PacketH
     read_body(data, count as usize, self_delimited, lengths)
 }
 
-// A packet of code 2: the first frame says its length, and the second takes the rest or says its own.
+// A packet of code 2: the first frame says its length, and the second takes the rest or says its own. `read_sizes` would serve, but with a second caller it is
+// no longer compiled into the reader of code 3.
 fn read_2(data: &[u8], self_delimited: bool, lengths: &mut [u16; 48]) -> PacketHead
     requires { ⌜ (1 ≤ length (now «data»)) × (length (now «data») ≤ 65535) ⌝ }
     requires zeros { ⌜ now lengths ≡ padded48 [] ⌝ }
@@ -223,10 +223,15 @@ fn read_2(data: &[u8], self_delimited: bool, lengths: &mut [u16; 48]) -> PacketH
         (unequal «self_delimited» R4 1 (drop 1 (now («data» .entry))))) ⌝ }
 {
     let body = &data[1..];
-    let f = read_sizes(body, 1, lengths);
-    let SizesAt::All(next, sum) = f else {
+    let size = opus_size::size_at(body, 0);
+    let SizeAt::Whole(n, next) = size else {
         return broken_head(Rule::R4, 1);
     };
+    let sum = wide(n);
+    if body.len() - next < sum {
+        return broken_head(Rule::R4, 1);
+    }
+    lengths[0] = n;
     behind_toc(
         data[0],
         2,
@@ -234,8 +239,8 @@ fn read_2(data: &[u8], self_delimited: bool, lengths: &mut [u16; 48]) -> PacketH
     )
 }
 
-// A packet of at least one byte. Code 3 is asked for first: most packets that come here have it.
-fn read_packet(data: &[u8], self_delimited: bool, lengths: &mut [u16; 48]) -> PacketHead
+// A packet of at least one byte and not too long. Code 3 is asked for first: most packets that come here have it.
+pub fn read_packet(data: &[u8], self_delimited: bool, lengths: &mut [u16; 48]) -> PacketHead
     requires { ⌜ (1 ≤ length (now «data»)) × (length (now «data») ≤ 65535) ⌝ }
     requires zeros { ⌜ now lengths ≡ padded48 [] ⌝ }
     ensures { λ r. ⌜ answerOf r (now (lengths .exit)) ≡ packetOf (read «self_delimited» (now («data» .entry))) ⌝ }

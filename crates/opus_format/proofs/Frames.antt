@@ -1,6 +1,6 @@
 -- Frames and their block: cut by their lengths, and joined again.
 --     cut-joined, joined-cut, lengths-cut, total-lengths     frames and their block
---     total-snoc, longest-snoc, total-same, longest-same     lengths: one more at the end, and all the same
+--     total-append, total-snoc, longest-snoc, total-same, longest-same     lengths: one more at the end, and all the same
 -- Assumes nothing.
 use Prim.Native.Nat.{ℕ, zero, suc, _+_, _*_, _≤_, max}
 use native.Mathlib.Omega.{arith}
@@ -32,9 +32,12 @@ total-lengths [] = refl
 total-lengths (a ∷ frames) = omega (arith, total-lengths frames, length-append a (joined frames))
 
 -- ---- one length more at the end
+pub total-append : (ns ms : List ℕ) → total (ns ++ ms) ≡ total ns + total ms
+total-append [] ms = omega arith
+total-append (n ∷ ns) ms = omega (arith, total-append ns ms)
+
 pub total-snoc : (ns : List ℕ) (n : ℕ) → total (ns ++ (n ∷ [])) ≡ total ns + n
-total-snoc [] n = omega arith
-total-snoc (m ∷ ns) n = omega (arith, total-snoc ns n)
+total-snoc ns n = omega (arith, total-append ns (n ∷ []))
 
 pub longest-snoc : (ns : List ℕ) (n : ℕ) → longest (ns ++ (n ∷ [])) ≡ max (longest ns) n
 longest-snoc [] n = omega arith

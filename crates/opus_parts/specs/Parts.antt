@@ -6,10 +6,10 @@ use mathlib.Core.Path.{_≡_}
 use mathlib.Core.List.{List}
 use mathlib.Core.Bool.{cond}
 use lib.Dec.{ltb}
-use lib.ListN.{length}
-use Rattle.opus_size.specs.Size.{Field, noField, field}
+use lib.ListN.{length, drop}
+use Rattle.opus_size.specs.Size.{lengthField, Field, noField, field}
 use Rattle.opus_format.specs.Frames.{total}
-use Rattle.opus_format.specs.Reading.{Front, broken, front, Fields, noFields, fields}
+use Rattle.opus_format.specs.Reading.{Front, broken, front, Fields, noFields, fields, readFields}
 use Rattle.opus_format.specs.Frames.{padded48}
 use Rattle.opus_parts.specs.declared.sizes_at.SizesAt.{SizesAt}
 use Rattle.opus_parts.specs.declared.sizes_at.SizesAt.the-variants.{All, Cut}
@@ -20,7 +20,7 @@ use Rattle.opus_parts.specs.declared.padding_at.PaddingAt.the-variants.{
 
 -- ---- length fields
 abbrev pub sizesAt : ℕ → Fields → SizesAt
-sizesAt m (noFields t) = Cut
+sizesAt m (noFields t) = Cut (m - length t)
 sizesAt m (fields ns t) = All (m - length t) (total ns)
 
 abbrev pub sizesLent : Fields → List ℕ → Type 0
@@ -34,6 +34,10 @@ SizesRead s r f l = (f ≡ sizesAt (length s) r) × (sizesLent r l)
 abbrev pub stopAt : ℕ → Fields → ℕ
 stopAt m (noFields t) = m - length t
 stopAt m (fields ns t) = m - length t
+
+-- where fields break of which the last read, n, ends at a place, and k follow
+abbrev pub cutAt : List ℕ → ℕ → ℕ → ℕ → ℕ
+cutAt s next n k = cond (ltb (length s - next) n) (next - length (lengthField n)) (stopAt (length s) (readFields k (drop next s)))
 
 -- ---- frames
 abbrev pub framesAt : ℕ → Front → FramesAt

@@ -11,7 +11,9 @@ use Rattle.opus_format.specs.Frames.{padded48}
 use Rattle.opus_format.specs.Reading.{refused, read}
 use Rattle.opus_format.proofs.Facts.{facts}
 use Rattle.opus_format.proofs.Within.{refused-within}
-use Rattle.opus.proofs.AtShort.{ShortRead, one-read, two-read, none-read}
+use Rattle.opus.specs.Answers.{answerOf, parsed}
+use Rattle.opus.proofs.AtPacket.{parse-read}
+use Rattle.opus.proofs.AtShort.{ShortRead, one-read, two-read, none-read, counted-some}
 use Rattle.opus.proofs.AtEqual.{EqualRead, same-read, wrong-read}
 use Rattle.aveluafi.proofs.Records.{read-few, record-read, record-unread, one-record, two-record, same-record, long-record, broken-record}
 use Rattle.aveluafi.proofs.reading.aveluafi_packet_parse.Statement.{statement}
@@ -148,29 +150,44 @@ returns-7 c =
     c .no-packet4 .ensures
     ∙ broken-record false (counted q .before .before .args .«data» .now) (q .before .if2 .left) _ _ (wrong s) (c .before .rule-refusal2 .ensures)
 
-abbrev entry : tie.After-read-into → tie.After-short-at
+-- any other packet of code 3
+abbrev entry : tie.After-read-packet → tie.After-short-at
 entry c = counted (c .before .before .before .before)
+
+read-packet-requires : tie.Need-read-packet-requires
+read-packet-requires c κs =
+    let i = c .before .before .before .before in
+    let k = i .before .before .before in
+    let some = counted-some false _ (sym (i .before .enum-told .given .1) ∙ k .short-at .ensures) in
+    ((omega (arith, some), omega (arith, i .if2 .left)), search needs)
+
+-- what was read is what is to be answered
+answered : (c : tie.After-read-packet) → let r = c .read-packet in
+    answerOf (r .result) (r .last .1 .1 .0) ≡ parsed false (entry c .before .before .args .«data» .now)
+answered c =
+    let q = c .before .before .before .before in
+    c .read-packet .ensures ∙ parse-read false _ (omega (arith, q .before .if2 .left))
 
 whole-packet-requires : tie.Need-whole-packet-requires
 whole-packet-requires c κs =
     let p = c .before .before in
-    let r = p .read-into in
+    let r = p .read-packet in
     let k = entry p in
-    omega (arith, read-few false (k .before .before .args .«data» .now) (r .result) (r .last .1 .1 .0) (bytes k) (r .ensures))
+    omega (arith, read-few false (k .before .before .args .«data» .now) (r .result) (r .last .1 .1 .0) (bytes k) (answered p))
 
 returns-8 : tie.Need-returns-8
 returns-8 c =
     let p = c .before .before .before in
-    let r = p .read-into in
+    let r = p .read-packet in
     let a = entry p .before .before .args in
-    c .whole-packet .ensures ∙ record-read false (a .«data» .now) (r .result) (r .last .1 .1 .0) (r .ensures) (c .before .enum-told3 .given .1)
+    c .whole-packet .ensures ∙ record-read false (a .«data» .now) (r .result) (r .last .1 .1 .0) (answered p) (c .before .enum-told3 .given .1)
 
 returns-9 : tie.Need-returns-9
 returns-9 c =
     let p = c .before .before .before .before in
-    let r = p .read-into in
+    let r = p .read-packet in
     let a = entry p .before .before .args in
-    c .no-packet5 .ensures ∙ record-unread false (a .«data» .now) (r .result) (r .last .1 .1 .0) (r .ensures) (c .before .before .v .given .1)
+    c .no-packet5 .ensures ∙ record-unread false (a .«data» .now) (r .result) (r .last .1 .1 .0) (answered p) (c .before .before .v .given .1)
 
 pub aveluafi-packet-parse-spec : {M : Type 1} → statement M
 aveluafi-packet-parse-spec =
@@ -209,7 +226,7 @@ aveluafi-packet-parse-spec =
     (λ c κs. search needs)
     returns-7
     (λ c. search needs)
-    (λ c κs. search needs)
+    read-packet-requires
     (λ c. search needs)
     (λ c. search needs)
     whole-packet-requires

@@ -9,18 +9,18 @@ use Rattle.opus_parts.proofs.sizes_at.break_at.Statement.{statement}
 use Rattle.opus_parts.proofs.sizes_at.break_at.Tie as tie
 
 abbrev Inv-loop : tie.InvT-loop
-Inv-loop s k next₀ i₀ next i = Stops s k next i
+Inv-loop s from k next₀ i₀ next i = Stops s from k next i
 
 abbrev μ-loop : tie.MeasureT-loop
-μ-loop s k next₀ i₀ next i = k - i
+μ-loop s from k next₀ i₀ next i = k - i
 
 loop-holds : tie.Need-loop-holds Inv-loop μ-loop
-loop-holds c = stops-start _ _
+loop-holds c = stops-start _ _ _ (c .before .pre)
 
 returns : tie.Need-returns Inv-loop μ-loop
 returns c =
     let f = c .before .before in
-    stops-cut _ _ _ _ (f .before .before .loop .inv) (search needs) (short-was _ _ (sym (f .size-at .ensures) ∙ c .enum-told .given .1))
+    stops-cut _ _ _ _ _ (f .before .before .loop .inv) (search needs) (short-was _ _ (sym (f .size-at .ensures) ∙ c .enum-told .given .1))
 
 -- the field that was read
 found : (c : tie.After-known-told Inv-loop μ-loop) → let f = c .before in let z = f .before .before in
@@ -34,16 +34,16 @@ returns-2 : tie.Need-returns-2 Inv-loop μ-loop
 returns-2 c =
     let k = c .before .before in
     let l = k .before .before .before .before .before .loop in
-    stops-over _ _ _ _ (l .inv) (search needs) _ _ _ (found k) (c .before .wide .ensures .0) (c .if1 .taken)
+    stops-over _ _ _ _ _ (l .inv) (search needs) _ _ _ (found k) (c .before .wide .ensures .0) (c .if1 .taken)
 
 loop-again : tie.Need-loop-again Inv-loop μ-loop
 loop-again c =
     let k = c .before .before in
     let l = k .before .before .before .before .before .loop in
-    stops-more _ _ _ _ (l .inv) (search needs) _ _ _ (found k) (c .before .wide .ensures .0) (c .if1 .left)
+    stops-more _ _ _ _ _ (l .inv) (search needs) _ _ _ (found k) (c .before .wide .ensures .0) (c .if1 .left)
 
 returns-3 : tie.Need-returns-3 Inv-loop μ-loop
-returns-3 c = stops-end _ _ _ _ (c .before .loop .inv) (search needs)
+returns-3 c = stops-end _ _ _ _ _ (c .before .loop .inv) (search needs)
 
 pub break-at-spec : {M : Type 1} → statement M
 break-at-spec =
