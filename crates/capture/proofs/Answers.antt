@@ -42,7 +42,7 @@ nothing-if b l false e k h rest = absurd (omega (arith, before-here (b ∷ l) (e
 nothing-if b l true e zero h rest = eqb-true (packetLength (b ∷ l)) 0 e
 nothing-if b l true e (suc k) h rest = rest k (omega (arith, before-later b l (eqb-true (packetLength (b ∷ l)) 0 e)))
 
-pub nothing-before : (l : List ℕ) (k : ℕ) → k < before l → packetLength (drop k l) ≡ 0
+nothing-before : (l : List ℕ) (k : ℕ) → k < before l → packetLength (drop k l) ≡ 0
 unfolding before
 nothing-before [] k h = absurd (omega arith)
 nothing-before (b ∷ l) k h = nothing-if b l (eqb (packetLength (b ∷ l)) 0) refl k h (nothing-before l)
@@ -55,7 +55,7 @@ record-if b l true e h rest z =
     let later = before-later b l (eqb-true (packetLength (b ∷ l)) 0 e) in
     rest (omega (arith, later)) (rw later at z)
 
-pub record-at-before : (l : List ℕ) → before l < length l → packetLength (drop (before l) l) ≡ 0 → ⊥
+record-at-before : (l : List ℕ) → before l < length l → packetLength (drop (before l) l) ≡ 0 → ⊥
 record-at-before [] h = absurd (omega arith)
 record-at-before (b ∷ l) h = record-if b l (eqb (packetLength (b ∷ l)) 0) refl h (record-at-before l)
 
@@ -68,7 +68,7 @@ before-drop-if b l true e (suc k) h rest =
     let later = before-later b l (eqb-true (packetLength (b ∷ l)) 0 e) in
     omega (arith, later, rest k (omega (arith, later)))
 
-pub before-drop : (l : List ℕ) (k : ℕ) → k ≤ before l → before (drop k l) ≡ before l - k
+before-drop : (l : List ℕ) (k : ℕ) → k ≤ before l → before (drop k l) ≡ before l - k
 unfolding before
 before-drop [] k h = rw (drop-nil k) (omega arith)
 before-drop (b ∷ l) k h = before-drop-if b l (eqb (packetLength (b ∷ l)) 0) refl k h (before-drop l)

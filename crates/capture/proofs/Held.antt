@@ -54,7 +54,7 @@ unfolding passedIn
 passed-end = refl
 
 -- the same of answers behind some bytes
-pub records-shifted : (n : ℕ) (r : List NextRecord) → recordsIn (map (shifted n) r) ≡ map (shifted n) (recordsIn r)
+records-shifted : (n : ℕ) (r : List NextRecord) → recordsIn (map (shifted n) r) ≡ map (shifted n) (recordsIn r)
 records-shifted n [] = rw records-end
 records-shifted n (a ∷ r) =
     by-test (eqb (a .length) 0)
@@ -64,7 +64,7 @@ records-shifted n (a ∷ r) =
     records-one (shifted n a) (map (shifted n) r) f
     ∙ (ap (λ (l : List NextRecord). shifted n a ∷ l) (records-shifted n r) ∙ ap (map (shifted n)) (sym (records-one a r f))))
 
-pub passed-shifted : (n : ℕ) (r : List NextRecord) → passedIn (map (shifted n) r) ≡ passedIn r
+passed-shifted : (n : ℕ) (r : List NextRecord) → passedIn (map (shifted n) r) ≡ passedIn r
 unfolding passedIn
 passed-shifted n [] = refl
 passed-shifted n (a ∷ r) = ap (λ (k : ℕ). a .passed + k) (passed-shifted n r)
@@ -142,14 +142,14 @@ firstPassing k [] = []
 firstPassing k (a ∷ more) = passingMore k a ∷ more
 
 -- they have the same records
-pub entries-passing : (k : ℕ) (s : List ℕ) (r : List NextRecord) → entries s (recordsIn (firstPassing k r)) ≡ entries s (recordsIn r)
+entries-passing : (k : ℕ) (s : List ℕ) (r : List NextRecord) → entries s (recordsIn (firstPassing k r)) ≡ entries s (recordsIn r)
 entries-passing k s [] = refl
 entries-passing k s (a ∷ r) =
     by-test (eqb (a .length) 0)
     (λ t. let z = eqb-true (a .length) 0 t in rw (records-none (passingMore k a) r z, records-none a r z))
     (λ t. let f = eqb-false (a .length) 0 t in rw (records-one (passingMore k a) r f, records-one a r f))
 
-pub passed-passing : (k : ℕ) (a : NextRecord) (more : List NextRecord) → passedIn (firstPassing k (a ∷ more)) ≡ k + passedIn (a ∷ more)
+passed-passing : (k : ℕ) (a : NextRecord) (more : List NextRecord) → passedIn (firstPassing k (a ∷ more)) ≡ k + passedIn (a ∷ more)
 passed-passing k a more = rw (passed-one (passingMore k a) more, passed-one a more) (omega arith)
 
 -- there is an answer, whatever is behind it

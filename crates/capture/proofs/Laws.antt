@@ -9,11 +9,11 @@ use native.Mathlib.Numerals.{add-one}
 use native.Mathlib.Omega.{arith}
 use lib.ListN.{length, getD, take, drop, length-drop}
 use lib.Seq.{getD-drop, drop-cons, drop-length, drop-drop, take-length}
-use lib.Dec.{leb, eqb, ltb}
+use lib.Dec.{leb, eqb}
 use borrow.Author.Tests.{le-leb, lt-leb, leb-true, eq-eqb, ne-eqb, eqb-true, eqb-false, le-ltb, lt-ltb}
 use Rattle.bytes.specs.Bytes.{slice, indexAfter, indexOf}
 use Rattle.opus_defines.specs.declared.Refusal.the-variants.{BadArg}
-use Rattle.capture.specs.declared.Record.{Record}
+use Rattle.capture.specs.Finding.{Record}
 use Rattle.capture.specs.Finding.{lengthIn, packetLength, packetAt, before, recordFrom, noRecord, withPassed, nextRecord}
 
 and-false : (b : Bool) → (b && false) ≡ false

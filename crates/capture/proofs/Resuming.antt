@@ -51,7 +51,7 @@ splits s at done more a h =
 
 -- ---- the reading from behind an answer's record, and from a place between
 module _ (s : List ℕ) (at : ℕ) (h : at ≤ length s) (more : List NextRecord) (r : readings s at ≡ nextRecord s at ∷ more) where
-  pub from-behind : (nextRecord s at .length ≡ 0 → ⊥) → readings s (behind (nextRecord s at)) ≡ more
+  from-behind : (nextRecord s at .length ≡ 0 → ⊥) → readings s (behind (nextRecord s at)) ≡ more
   from-behind f =
       let e : nextRecord s at ∷ readings s (behind (nextRecord s at)) ≡ nextRecord s at ∷ more = sym (readings-on s at h f) ∙ r in
       cc
@@ -75,7 +75,7 @@ module _ (s : List ℕ) (at : ℕ) (h : at ≤ length s) (more : List NextRecord
         let e : readings s (behind (nextRecord s k)) ≡ more = ap (readings s) same-behind ∙ from-behind f in
         rw (← e) (readings-on s k (omega (arith, next-place-le s at h)) (λ z. f (sym same-length ∙ z)))
 
-    pub from-between : readings s k ≡ nextRecord s k ∷ more
+    from-between : readings s k ≡ nextRecord s k ∷ more
     from-between =
         by-test (eqb (nextRecord s at .length) 0) (λ t. between-end (eqb-true (nextRecord s at .length) 0 t))
         (λ t. between-on (eqb-false (nextRecord s at .length) 0 t))

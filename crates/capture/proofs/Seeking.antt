@@ -14,7 +14,7 @@ use lib.ListN.{length, getD, drop, length-drop}
 use lib.Seq.{getD-drop, drop-length}
 use lib.Dec.{eqb, leb}
 use Rattle.opus_defines.specs.declared.Verdict.the-variants.{Accepted}
-use Rattle.capture.specs.declared.Record.{Record}
+use Rattle.capture.specs.Finding.{Record}
 use Rattle.capture.specs.Finding.{lengthIn, packetLength, before, recordFrom, nextRecord}
 use Rattle.capture.proofs.Laws.{lengthAt, length-cut, length-whole, before-later, within, record-here, record-later, record-place, next-found}
 use Rattle.capture.proofs.Answers.{next-place, next-stands, next-end}

@@ -19,7 +19,7 @@ use Rattle.capture.proofs.Steps.{readings-end, readings-on, reading-ind
 abbrev pub shifted : ℕ → NextRecord → NextRecord
 shifted n a = record { verdict = a .verdict; line = a .line; place = n + a .place; length = a .length; passed = a .passed }
 
-pub behind-shifted : (n : ℕ) (a : NextRecord) → behind (shifted n a) ≡ n + behind a
+behind-shifted : (n : ℕ) (a : NextRecord) → behind (shifted n a) ≡ n + behind a
 unfolding recordBytes
 behind-shifted n a = omega arith
 
@@ -28,7 +28,7 @@ module _ (front s : List ℕ) where
   inside-both : (at : ℕ) → at ≤ length s → length front + at ≤ length (front ++ s)
   inside-both at h = omega (arith, length-append front s)
 
-  pub next-shifted : (at : ℕ) → at ≤ length s → nextRecord (front ++ s) (length front + at) ≡ shifted (length front) (nextRecord s at)
+  next-shifted : (at : ℕ) → at ≤ length s → nextRecord (front ++ s) (length front + at) ≡ shifted (length front) (nextRecord s at)
   unfolding recordFrom
   next-shifted at h =
       rw (

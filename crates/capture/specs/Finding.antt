@@ -11,7 +11,6 @@ use Rattle.opus_defines.specs.declared.Refusal.{Refusal}
 use Rattle.opus_defines.specs.declared.Refusal.the-variants.{BadArg}
 use Rattle.opus_defines.specs.declared.Verdict.the-variants.{Accepted, Refused}
 use Rattle.capture.specs.Records.{headBytes}
-use Rattle.capture.specs.declared.Record.{Record}
 use Rattle.capture.specs.declared.NextRecord.{NextRecord}
 
 -- the length behind the mark and the line, high byte first
@@ -31,6 +30,12 @@ packetAt s at = take (packetLength (drop at s)) (drop (at + headBytes) s)
 unfoldable pub before : List ℕ → ℕ
 before [] = 0
 before (b ∷ l) = cond (eqb (packetLength (b ∷ l)) 0) (suc (before l)) 0
+
+-- the line of a record, the place of its mark, the bytes of its packet
+pub record Record : Type 0 where
+  pub line : ℕ
+  pub place : ℕ
+  pub length : ℕ
 
 -- the first record at or after a place; 0, the end, 0 where there is none
 unfoldable pub recordFrom : List ℕ → ℕ → Record

@@ -13,13 +13,6 @@ use opus_defines::wide_byte;
 // The bytes of a record before its packet.
 pub const HEAD_BYTES: usize = 5;
 
-// The first record at or after a place, as `recordFrom` has it: its line, the place of its mark, the bytes of its packet. Where there is none: 0, the end, 0.
-struct Record {
-    line: u8,
-    place: usize,
-    length: usize,
-}
-
 // What `next_record` answers: a record, and the bytes passed over before it. All zeros beside a refusal.
 pub struct NextRecord {
     pub verdict: Verdict,

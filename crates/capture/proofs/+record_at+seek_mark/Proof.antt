@@ -9,7 +9,7 @@ use lib.ListN.{length, drop}
 use borrow.Author.Needs.{needs}
 use borrow.Fn.Kinds.{In}
 use borrow.Fn.PlainCycle.{Measures, is, falls, and}
-use Rattle.capture.specs.declared.Record.{Record}
+use Rattle.capture.specs.Finding.{Record}
 use Rattle.capture.specs.Finding.{packetLength, recordFrom}
 use Rattle.capture.proofs.Laws.{length-first, length-second, length-cut}
 use Rattle.capture.proofs.Seeking.{place-here, place-later, place-end, length-none, stands, goes-on}
