@@ -4,11 +4,10 @@ use Prim.Native.Nat.{ℕ}
 use mathlib.Core.Path.{_≡_, refl}
 use mathlib.Core.List.{List, [], _∷_, _++_}
 use mathlib.Core.Bool.{true, false}
-use lib.IntN.{ℤ, pos, negsuc}
+use lib.IntN.{pos, negsuc}
 use lib.ListN.{replicate}
 use Rattle.opus_defines.specs.Rules.{ruleRefusal}
 use Rattle.opus_defines.specs.declared.Refusal.the-variants.{OverBudget}
-use Rattle.opus_defines.specs.declared.Report.{Report}
 use Rattle.opus_defines.specs.declared.Verdict.the-variants.{Accepted}
 use Rattle.opus_toc.specs.Toc.{duration}
 use Rattle.opus_size.specs.Answers.{sizeTold, parseSize}
@@ -19,11 +18,6 @@ use Rattle.compaction.specs.Share.{noShare}
 use Rattle.opus_head.specs.Header.{letters}
 use Rattle.opus_head.specs.Reading.{fieldsFit, headRead}
 use Rattle.aveluafi.specs.Records.{sizeRecord, packetRecord, captureRecord, shareRecord, headRecord}
-use Rattle.aveluafi.specs.declared.reading.AveluafiSize.{AveluafiSize}
-use Rattle.aveluafi.specs.declared.reading.AveluafiPacket.{AveluafiPacket}
-use Rattle.aveluafi.specs.declared.captures.AveluafiRecord.{AveluafiRecord}
-use Rattle.aveluafi.specs.declared.compacting.AveluafiShare.{AveluafiShare}
-use Rattle.aveluafi.specs.declared.identification.AveluafiHead.{AveluafiHead}
 
 -- FC 01 is 256 in two bytes; cut short it is -1 with the rule that was told, at place 0; told rule 5 it is -1 without a rule
 pub sizes-in-c : sizeRecord (parseSize 7 (0xfc ∷ 0x01 ∷ [])) ∷ sizeRecord (parseSize 7 (0xfc ∷ [])) ∷ sizeRecord (parseSize 5 (0xfc ∷ [])) ∷ []

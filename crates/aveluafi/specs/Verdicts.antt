@@ -1,5 +1,4 @@
 -- A verdict as C sees it (document 02, M-110): 1 unreadable, 2 dirty, 3 longer than needed, 4 clean; 0 in each field that it does not have.
-use Prim.Native.Nat.{ℕ}
 use lib.IntN.{pos}
 use Rattle.opus_defines.specs.Numbers.{ruleNumber, refusalNumber}
 use Rattle.packet_judge.specs.declared.Judged.{Judged}

@@ -8,9 +8,9 @@ use native.Mathlib.Nat.{add-zero, zero-add, add-suc, suc-add, not-suc-le-zero, s
 use native.Mathlib.Numerals.{add-one}
 use native.Mathlib.Omega.{arith}
 use lib.ListN.{length, take, drop, getD, set, replicate, length-take, length-drop, length-set, length-replicate, replicate-append-replicate}
-use lib.Seq.{sets, sets-eq, take-append-seam, drop-append-seam, take-suc, take-add, take-nil, drop-drop, drop-set-lt}
-use lib.Seq.{getD-set-same, getD-set-other, getD-drop, set-comm, set-getD, set-set}
-use Rattle.blocks.specs.Blocks.{part, moved, filled, copied}
+use lib.Seq.{sets, sets-eq, take-append-seam, take-suc, take-add, take-nil, drop-drop, drop-set-lt}
+use lib.Seq.{getD-set-same, getD-set-other, getD-drop, set-comm, set-set}
+use Rattle.blocks.specs.Blocks.{part, filled, copied}
 
 -- two runs, one after the other, are one run
 pub sets-append : (l : List ℕ) (at : ℕ) (us vs : List ℕ) → sets l at (us ++ vs) ≡ sets (sets l at us) (at + length us) vs
@@ -22,7 +22,7 @@ pub put-behind : (l us vs : List ℕ) {d : List ℕ} {at : ℕ} → d ≡ sets l
 put-behind l us vs e a = rw (sets-append, zero-add, ← e, ← a)
 
 -- a store before a run may go first
-pub set-sets : (l : List ℕ) (i a at : ℕ) (vs : List ℕ) → i < at → set (sets l at vs) i a ≡ sets (set l i a) at vs
+set-sets : (l : List ℕ) (i a at : ℕ) (vs : List ℕ) → i < at → set (sets l at vs) i a ≡ sets (set l i a) at vs
 set-sets l i a at [] h = refl
 set-sets l i a at (v ∷ vs) h =
     let ne : i ≢ at = λ e. omega arith in
@@ -30,7 +30,7 @@ set-sets l i a at (v ∷ vs) h =
     set-sets (set l at v) i a (suc at) vs h′ ∙ ap (λ (m : List ℕ). sets m (suc at) vs) (sym (set-comm l i at a v ne))
 
 -- two runs that do not meet may change places
-pub sets-sets : (l : List ℕ) (at : ℕ) (us : List ℕ) (bt : ℕ) (vs : List ℕ) → at + length us ≤ bt
+sets-sets : (l : List ℕ) (at : ℕ) (us : List ℕ) (bt : ℕ) (vs : List ℕ) → at + length us ≤ bt
     → sets (sets l bt vs) at us ≡ sets (sets l at us) bt vs
 sets-sets l at [] bt vs h = refl
 sets-sets l at (u ∷ us) bt vs h =
@@ -69,7 +69,7 @@ sets-before l at (v ∷ vs) k d h =
     sets-before (set l at v) (suc at) vs k d h′ ∙ getD-set-other l at k v d ne
 
 -- what a run left, within it
-pub sets-in : (l : List ℕ) (at : ℕ) (vs : List ℕ) (i d : ℕ) → i < length vs → at + i < length l → getD (sets l at vs) (at + i) d ≡ getD vs i d
+sets-in : (l : List ℕ) (at : ℕ) (vs : List ℕ) (i d : ℕ) → i < length vs → at + i < length l → getD (sets l at vs) (at + i) d ≡ getD vs i d
 sets-in l at [] i d h k = absurd (not-suc-le-zero h)
 sets-in l at (v ∷ vs) zero d h k =
     let h′ : at < suc at = omega arith in

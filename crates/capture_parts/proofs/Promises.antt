@@ -1,12 +1,11 @@
 -- What may be counted on when a file is read part by part (beyond document 02): what `read_part` calls a part is the next of the file's parts.
 -- Assumes nothing.
 use Prim.Native.Nat.{ℕ, _<_}
-use mathlib.Core.Path.{_≡_, sym, ap, _∙_}
+use mathlib.Core.Path.{_≡_, sym, _∙_}
 use mathlib.Core.List.{List, [], _∷_, _++_}
 use mathlib.Core.Bool.{true, false}
 use lib.ListN.{length, take, drop}
 use borrow.Author.Tests.{ltb-true}
-use Rattle.capture_window.specs.Window.{settled}
 use Rattle.capture_window.specs.Parts.{partsFrom}
 use Rattle.capture_parts.specs.Part.{PartOf}
 use Rattle.capture_parts.specs.declared.Part.{Part}

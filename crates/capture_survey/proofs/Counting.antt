@@ -7,7 +7,7 @@
 use Prim.Native.Nat.{ℕ, _+_, _*_, _-_, _≤_}
 use native.Mathlib.Nat.{add-zero, zero-add, add-assoc}
 use native.Mathlib.Omega.{arith}
-use mathlib.Core.Path.{_≡_, refl, sym, ap, _∙_}
+use mathlib.Core.Path.{_≡_, refl, ap}
 use mathlib.Core.List.{List, [], _∷_}
 use mathlib.Core.Bool.{false}
 use lib.ListN.{length}
@@ -19,7 +19,7 @@ use Rattle.capture.proofs.Answers.{next-place, next-passed, next-place-le, next
 use Rattle.capture.proofs.Steps.{readings-end, readings-on, reading-induction}
 use Rattle.compaction.proofs.Entries.{next-length}
 use Rattle.packet_judge.specs.Judging.{judged}
-use Rattle.packet_judge.specs.Tallies.{none, tallied, sumOf}
+use Rattle.packet_judge.specs.Tallies.{none, tallied}
 use Rattle.packet_judge.specs.declared.Judged.{Judged}
 use Rattle.packet_judge.specs.declared.Tally.{Tally}
 use Rattle.packet_judge.proofs.Tallying.{tallied-most, plus-one}
@@ -28,7 +28,7 @@ use Rattle.capture_survey.specs.declared.Survey.{Survey}
 use Rattle.capture_survey.proofs.Savings.{saved-most}
 
 -- ---- together
-pub together-none : (t : Survey) → together t (ofPassed 0) ≡ t
+together-none : (t : Survey) → together t (ofPassed 0) ≡ t
 together-none t = simp add-zero
 
 pub none-together : (t : Survey) → together (ofPassed 0) t ≡ t

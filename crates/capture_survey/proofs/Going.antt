@@ -12,11 +12,10 @@ use lib.Seq.{length-take-le}
 use Rattle.laws.specs.Bytes.{Bytes}
 use Rattle.laws.proofs.Bytes.{bytes-drop}
 use Rattle.capture.specs.Finding.{packetLength, packetAt, nextRecord}
-use Rattle.capture.specs.Reading.{behind}
 use Rattle.capture.specs.declared.NextRecord.{NextRecord}
 use Rattle.capture.proofs.Laws.{packet-part}
 use Rattle.capture.proofs.Written.{found-length, found-holds}
-use Rattle.capture.proofs.Answers.{next-place, next-passed, next-stands, next-place-le, Found, found}
+use Rattle.capture.proofs.Answers.{next-place, next-passed, next-stands, next-place-le, found}
 use Rattle.capture_survey.specs.Survey.{ofRecord, ofPassed, together, surveyOf, bytesIn}
 use Rattle.capture_survey.specs.declared.Survey.{Survey}
 use Rattle.capture_survey.proofs.Counting.{together-all, rest, rest-none, rest-one, record-most, bytes-together}
@@ -53,10 +52,10 @@ module _ {s : List ℕ} {before sum : Survey} {at : ℕ} (g : Going s before sum
         let k = found s at (λ z. f (ap (λ (x : NextRecord). x .length) e ∙ z)) in
         rw e (k .some, omega (arith, k .inside, k .next))
 
-    pub is-packet : packetIn s (a .place) (a .length) ≡ packetAt s (a .place)
+    is-packet : packetIn s (a .place) (a .length) ≡ packetAt s (a .place)
     is-packet = sym (packet-part s (a .place) (a .length) (rw e (next-stands s at (g .inside))))
 
-    pub packet-long : length (packetIn s (a .place) (a .length)) ≡ a .length
+    packet-long : length (packetIn s (a .place) (a .length)) ≡ a .length
     packet-long =
         length-take-le (a .place + 5 + a .length - (a .place + 5)) (drop (a .place + 5) s) (omega (arith, length-drop (a .place + 5) s, there)) ∙ omega arith
 

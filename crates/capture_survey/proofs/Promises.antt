@@ -14,13 +14,12 @@ use Rattle.capture.proofs.Held.{all-counted}
 use Rattle.capture_window.specs.Parts.{joinedUp, parts}
 use Rattle.capture_window.proofs.Promises.{parts-read-as-the-file}
 use Rattle.packet_judge.specs.Judging.{judged}
-use Rattle.packet_judge.specs.Tallies.{tallyOf, none, plus, sumOf}
-use Rattle.packet_judge.specs.declared.Tally.{Tally}
+use Rattle.packet_judge.specs.Tallies.{tallyOf, sumOf}
 use Rattle.compaction.specs.Share.{night, share}
 use Rattle.compaction.proofs.Faithful.{stand-all}
 use Rattle.compaction.proofs.Whole.{whole}
 use Rattle.compaction.proofs.Joining.{one-share, all-fit}
-use Rattle.capture_survey.specs.Survey.{ofPassed, together, surveyOf, surveyOfAll, bytesIn}
+use Rattle.capture_survey.specs.Survey.{surveyOf, surveyOfAll, bytesIn}
 use Rattle.capture_survey.proofs.Counting.{rest-most}
 use Rattle.capture_survey.proofs.Summing.{verdictOn, by-records, by-parts, entries-many, entries-verdicts, verdicts-all, reclaimed-whole}
 

@@ -36,7 +36,7 @@ use Rattle.compaction.proofs.Whole.{whole, whole-none, whole-one, whole-end}
 use Rattle.capture_survey.specs.Survey.{ofRecord, ofPassed, together, counted, surveyOf, surveyOfAll}
 use Rattle.capture_survey.specs.declared.Survey.{Survey}
 use Rattle.capture_survey.proofs.Savings.{saved-is, never-refused}
-use Rattle.capture_survey.proofs.Counting.{together-none, none-together, together-all, counted-none, counted-one, counted-end}
+use Rattle.capture_survey.proofs.Counting.{none-together, together-all, counted-none, counted-one, counted-end}
 
 -- ---- of records
 pub ofEntries : List Entry → Survey

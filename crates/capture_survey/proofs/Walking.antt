@@ -86,7 +86,7 @@ module _ (p rest s : List ℕ) (e : p ++ rest ≡ s) where
 abbrev pub partBytes : Bool → List ℕ → ℕ
 partBytes last s = cond last (length s) (settled s)
 
-pub part-within : (last : Bool) (s : List ℕ) → partBytes last s ≤ length s
+part-within : (last : Bool) (s : List ℕ) → partBytes last s ≤ length s
 part-within true s = omega arith
 part-within false s = settled-bounds s .within
 

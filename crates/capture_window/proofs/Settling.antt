@@ -37,7 +37,7 @@ module _ (s : List ℕ) where
   in-short (suc most) z w = rw (eq-eqb (packetLength s) 0 z, lt-leb window (length s) w)
 
 -- a fact of s by what stands at its front
-pub by-front : {P : Type 0} (s : List ℕ) → ((packetLength s ≡ 0 → ⊥) → P) → (packetLength s ≡ 0 → window ≤ length s → P)
+by-front : {P : Type 0} (s : List ℕ) → ((packetLength s ≡ 0 → ⊥) → P) → (packetLength s ≡ 0 → window ≤ length s → P)
     → (packetLength s ≡ 0 → length s < window → P) → P
 by-front s here over short =
     by-test (eqb (packetLength s) 0)
@@ -92,7 +92,7 @@ skips-one k s rest first =
     let there : drop k (drop 1 s) ≡ drop (suc k) s = drop-drop k 1 s ∙ rw (one-add k) in
     omega (arith, ap settled there)
 
-pub settled-skips : (k : ℕ) (s : List ℕ) → ((j : ℕ) → j < k → packetLength (drop j s) ≡ 0) → k + (window - 1) ≤ length s
+settled-skips : (k : ℕ) (s : List ℕ) → ((j : ℕ) → j < k → packetLength (drop j s) ≡ 0) → k + (window - 1) ≤ length s
     → settled s ≡ k + settled (drop k s)
 settled-skips zero s clear w = rw zero-add
 settled-skips (suc k) s clear w =

@@ -132,7 +132,7 @@ module _ (b : ℕ) (p rest : List ℕ) (z : packetLength (b ∷ (p ++ rest)) ≡
       let place : base + 1 + length p ≡ base + length (b ∷ p) = omega arith in
       first-byte (restOn (base + length (b ∷ p)) rest) ∙ (rw place at ih ∙ sym both-byte)
 
-pub told-answers : {rest p : List ℕ} → Told rest p → (base carried : ℕ) → Follows rest p base carried
+told-answers : {rest p : List ℕ} → Told rest p → (base carried : ℕ) → Follows rest p base carried
 told-answers {rest} nothing base carried = follows-nothing rest base carried
 told-answers {rest} {p} (whole f t) base carried = follows-whole p rest f base carried (told-answers t (base + (5 + packetLength p)) 0)
 told-answers {rest} (byte {b} {p} z t) base carried = follows-byte b p rest z base carried (told-answers t (base + 1) (carried + 1))

@@ -4,12 +4,10 @@
 -- Assumes nothing.
 use Prim.Native.Nat.{ℕ, zero, suc, _-_, _≤_}
 use native.Mathlib.Omega.{arith}
-use mathlib.Core.Path.{_≡_, sym, _∙_}
+use mathlib.Core.Path.{_≡_, _∙_}
 use mathlib.Core.List.{List, [], _++_, append-assoc}
-use lib.Dec.{eqb}
 use lib.ListN.{length}
-use borrow.Author.Tests.{eqb-true, eqb-false, eq-eqb, ne-eqb}
-use Rattle.laws.proofs.Never.{by-test}
+use borrow.Author.Tests.{eq-eqb, ne-eqb}
 use Rattle.capture.specs.Finding.{nextRecord}
 use Rattle.capture.specs.Reading.{behind, readings}
 use Rattle.captures_text.specs.Lines.{recordLine, recordLines, linesIn}
@@ -18,11 +16,11 @@ use Rattle.capture.proofs.Steps.{readings-end, readings-on}
 use Rattle.captures_text.proofs.Parts.{by-turn, lines-end, lines-full, lines-none, lines-more}
 
 module _ (s : List ℕ) (at : ℕ) where
-  pub text-none : nextRecord s at .length ≡ 0 → recordLines (readings s at) ≡ []
+  text-none : nextRecord s at .length ≡ 0 → recordLines (readings s at) ≡ []
   unfolding recordLines
   text-none z = rw (readings-end s at z) (simp (eq-eqb (nextRecord s at .length) 0 z))
 
-  pub text-more : (nextRecord s at .length ≡ 0 → ⊥)
+  text-more : (nextRecord s at .length ≡ 0 → ⊥)
       → recordLines (readings s at) ≡ recordLine (nextRecord s at) ++ recordLines (readings s (behind (nextRecord s at)))
   unfolding recordLines
   text-more f = rw (readings-on s at (found s at f .asked) f) (simp (ne-eqb (nextRecord s at .length) 0 f))

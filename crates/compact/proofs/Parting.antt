@@ -28,7 +28,7 @@ use Rattle.compact.proofs.Fronts.{share-taken, written-taken, share-ful
 
 -- ---- shares joined
 module _ (s : List ℕ) (b : ℕ) where
-  pub joined-none : joined none (shareOf s b) ≡ shareOf s b
+  joined-none : joined none (shareOf s b) ≡ shareOf s b
   joined-none = same-share (omega arith) (omega arith) (omega arith) (omega arith) (omega arith) ∙ sym (share-eta s b)
 
   pub none-joined : joined (shareOf s b) none ≡ shareOf s b

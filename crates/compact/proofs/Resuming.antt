@@ -38,7 +38,7 @@ told-record l f c t =
     let n = 5 + packetLength l in
     rw (← drop-drop c n l, take-add n c l) (told-whole l (take c (drop n l)) (drop c (drop n l)) f t)
 
-pub told-done : (s : List ℕ) (b : ℕ) → Told (drop (shareOf s b .resume) s) (take (shareOf s b .resume) s)
+told-done : (s : List ℕ) (b : ℕ) → Told (drop (shareOf s b .resume) s) (take (shareOf s b .resume) s)
 told-done =
     front-induction (λ s. (b : ℕ) → ToldTo s (shareOf s b .resume))
     (λ b. rw (share-nil b) nothing)

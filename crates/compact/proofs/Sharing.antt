@@ -3,7 +3,7 @@
 --     share-ample, share-min    a budget that holds the part does all of it, and a larger one does the same
 --     Shares, shares-none, shares-on     shares joined, of parts that were done to their ends
 -- Assumes nothing.
-use Prim.Native.Nat.{ℕ, _+_, _-_, _<_, _≤_, min}
+use Prim.Native.Nat.{ℕ, _+_, _-_, _≤_, min}
 use native.Mathlib.Omega.{arith}
 use mathlib.Core.Path.{_≡_, refl, sym, ap, _∙_}
 use mathlib.Core.List.{List, [], _∷_}
@@ -12,13 +12,12 @@ use lib.Dec.{ltb}
 use borrow.Author.Tests.{ltb-true, ltb-false}
 use Rattle.laws.proofs.Never.{by-test}
 use Rattle.opus_defines.specs.declared.Verdict.the-variants.{Accepted}
-use Rattle.capture.specs.Reading.{begins, readings, recordsIn}
+use Rattle.capture.specs.Reading.{begins, readings}
 use Rattle.capture.specs.declared.NextRecord.{NextRecord}
 use Rattle.capture.proofs.Answers.{next-place-le}
 use Rattle.compaction.specs.Account.{output, account}
 use Rattle.compaction.specs.Share.{done, stop, accounted}
 use Rattle.compaction.specs.declared.Share.{Share}
-use Rattle.compaction.proofs.Going.{output-none}
 use Rattle.compaction.proofs.Nights.{account-records, stop-is-end, stop-splits}
 use Rattle.compaction.proofs.Whole.{output-size, whole, Ample, ample}
 use Rattle.compaction.proofs.Joining.{all-fit}

@@ -1,7 +1,6 @@
 -- What is written is as short as it can be: no packet that says the same as a record's is shorter than the one that is written for it.
 -- Assumes nothing.
 use Prim.Native.Nat.{ℕ, _≤_}
-use mathlib.Core.Path.{_≡_}
 use mathlib.Core.List.{List, [], _∷_, map}
 use mathlib.Core.Bool.{false}
 use lib.ListN.{length, drop}

@@ -37,7 +37,7 @@ use Rattle.cut_orders.proofs.Effects.{effect-within}
 use Rattle.cut_orders.proofs.Orders.{each-none, each-wrote, each-stopped}
 use Rattle.cut_orders.proofs.Many.{with-none, with-more, many-sound}
 
-pub consecutive-few : (begin n : ℕ) (os : List Order) → Consecutive begin n os → begin + length os ≤ n
+consecutive-few : (begin n : ℕ) (os : List Order) → Consecutive begin n os → begin + length os ≤ n
 consecutive-few begin n [] c = omega (arith, c)
 consecutive-few begin n (o ∷ os) c = omega (arith, c .1 .1 .0, consecutive-few (natural (o .end)) n os (c .1 .1 .1))
 
@@ -46,7 +46,7 @@ abbrev pub packets : ℕ → List (List ℕ) → ℕ → List Order → List (Li
 packets six frames begin [] = []
 packets six frames begin (o ∷ os) = compact false six (range begin (natural (o .end)) frames) ∷ packets six frames (natural (o .end)) os
 
-pub cut-bytes : (six : ℕ) (frames : List (List ℕ)) (begin : ℕ) (os : List Order)
+cut-bytes : (six : ℕ) (frames : List (List ℕ)) (begin : ℕ) (os : List Order)
     → length (joined (packets six frames begin os)) ≡ cutBytes six frames begin os
 cut-bytes six frames begin [] = refl
 cut-bytes six frames begin (o ∷ os) =
@@ -74,7 +74,7 @@ module _ (six : ℕ) (frames : List (List ℕ)) (room : ℕ) where
     stops h = within ∙ output-short false false six (range begin end frames) left h
 
   -- with room for all,
-  pub each-cut : (os : List Order) (begin : ℕ) → Consecutive begin (length frames) os → (ls bs : List ℕ)
+  each-cut : (os : List Order) (begin : ℕ) → Consecutive begin (length frames) os → (ls bs : List ℕ)
       → length bs + cutBytes six frames begin os ≤ room
       → let ps = packets six frames begin os in each six frames room os (cutInto ls bs) ≡ cutInto (ls ++ lengths ps) (bs ++ joined ps)
   each-cut [] begin c ls bs h = each-none six frames room (cutInto ls bs) ∙ rw (append-nil ls, append-nil bs)
@@ -119,7 +119,7 @@ module _ (strict : ℕ → Bool) (dst : List ℕ) where
     room-of i begin (o ∷ os) h k = (omega arith, (k, room-of (suc i) (natural (o .end)) os (omega arith) k))
 
     -- the packets in a destination, by the lengths in the list
-    pub packets-by : (i begin : ℕ) (os : List Order) (rest : List ℕ) → let ps = packets six frames begin os in
+    packets-by : (i begin : ℕ) (os : List Order) (rest : List ℕ) → let ps = packets six frames begin os in
         packetsBy strict i (withLengths (lengths ps) os) (joined ps ++ rest) ≡ map (packed false six) (ranges begin (cutsOf strict dst i os) frames)
     packets-by i begin [] rest = rw (with-none [])
     packets-by i begin (o ∷ os) rest =
@@ -151,7 +151,7 @@ module _ (s : State) (r : Ready s) (orders : List Order) (c : Consecutive 0 (len
   is : outMany (s .rp) (s .store) orders dst ≡ leavesMany orders dst (each six frames (length dst) orders (cutInto [] []))
   is = many-sound (s .rp) (s .store) orders dst (r .soundly) (r .roomy) most few
 
-  pub many-short : length dst < cutBytes six frames 0 orders
+  many-short : length dst < cutBytes six frames 0 orders
       → (p : ℕ) × (outMany (s .rp) (s .store) orders dst ≡ leavesMany orders dst (refusedAt p BufferTooSmall))
   many-short h =
       let e = each-short six frames (length dst) orders 0 c [] [] (omega arith) (omega arith) in
@@ -161,7 +161,7 @@ module _ (s : State) (r : Ready s) (orders : List Order) (c : Consecutive 0 (len
     abbrev ps : List (List ℕ)
     ps = packets six frames 0 orders
 
-    pub many-cut : outMany (s .rp) (s .store) orders dst ≡ leavesMany orders dst (cutInto (lengths ps) (joined ps))
+    many-cut : outMany (s .rp) (s .store) orders dst ≡ leavesMany orders dst (cutInto (lengths ps) (joined ps))
     many-cut = is ∙ ap (leavesMany orders dst) (each-cut six frames (length dst) orders 0 c [] [] (omega arith))
 
     -- what is added again is what single outputs leave

@@ -143,14 +143,14 @@ fits-done room i (refusedAt p e) f t q = absurd (refusal-not e q)
 fits-done room i (cutInto lengths bytes) f t q = f .0
 
 module _ (six : ℕ) (frames : List (List ℕ)) (room : ℕ) where
-  pub each-next : (os : List Order) (i : ℕ) (d : Order) (c : Cutting) → i < length os → each six frames room (take (suc i) os) c
+  each-next : (os : List Order) (i : ℕ) (d : Order) (c : Cutting) → i < length os → each six frames room (take (suc i) os) c
       ≡ next six frames room (getD os i d .begin) (getD os i d .end) (each six frames room (take i os) c)
   unfolding each
   each-next [] i d c h = absurd (not-suc-le-zero h)
   each-next (o ∷ os) zero d c h = refl
   each-next (o ∷ os) (suc i) d c h = each-next os i d (next six frames room (o .begin) (o .end) c) (le-of-suc-le-suc h)
 
-  pub each-all : (os : List Order) (c : Cutting) → each six frames room (take (length os) os) c ≡ each six frames room os c
+  each-all : (os : List Order) (c : Cutting) → each six frames room (take (length os) os) c ≡ each six frames room os c
   each-all os c = ap (λ (l : List Order). each six frames room l c) (take-length os)
 
   each-two : (os us : List Order) (c : Cutting) → each six frames room (os ++ us) c ≡ each six frames room us (each six frames room os c)

@@ -16,7 +16,7 @@ use lib.ListN.{length, drop, length-append, length-map}
 use lib.Seq.{length-sets}
 use Rattle.laws.proofs.Never.{never, cond-elim}
 use Rattle.opus_defines.specs.Bounds.{mostPacket}
-use Rattle.opus_defines.specs.Outcome.{Effect, refusal, leaves}
+use Rattle.opus_defines.specs.Outcome.{Effect}
 use Rattle.opus_defines.specs.declared.Refusal.{Refusal}
 use Rattle.opus_defines.specs.declared.Refusal.the-variants.{BadArg, InvalidState}
 use Rattle.opus_defines.proofs.Outcomes.{refusal-not}
@@ -75,7 +75,7 @@ went-more : (before n : ℕ) (c : Cutting) → Went (before + 1) n c → Went be
 went-more before n (refusedAt p e) w = (omega (arith, w .0), omega (arith, w .1))
 went-more before n (cutInto ns bs) w = (omega (arith, w .0), w .1)
 
-pub each-went : (six : ℕ) (frames : List (List ℕ)) (room : ℕ) (os : List Order) (ls bs : List ℕ) → total ls ≡ length bs
+each-went : (six : ℕ) (frames : List (List ℕ)) (room : ℕ) (os : List Order) (ls bs : List ℕ) → total ls ≡ length bs
     → Went (length ls) (length os) (each six frames room os (cutInto ls bs))
 unfolding each
 each-went six frames room [] ls bs t = (omega arith, t)

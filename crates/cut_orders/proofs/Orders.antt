@@ -13,7 +13,7 @@ use Rattle.opus_defines.specs.Outcome.{Effect, refusal, wrote}
 use Rattle.opus_defines.specs.declared.Refusal.{Refusal}
 use Rattle.repacketizer_out.specs.Output.{outFrames}
 use Rattle.cut_orders.specs.declared.Order.{Order}
-use Rattle.cut_orders.specs.Orders.{Cutting, refusedAt, cutInto, behind, each}
+use Rattle.cut_orders.specs.Orders.{Cutting, refusedAt, cutInto, each}
 use Rattle.blocks.proofs.LentParts.{sets-front}
 use Rattle.blocks.proofs.Sets.{take-sets, sets-over}
 

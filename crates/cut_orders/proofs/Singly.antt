@@ -35,12 +35,12 @@ left-over dst bs = simp (length-drop, length-sets)
 -- ---- single calls, one more
 module _ (rp : OpusRepacketizer) (store : List ℕ) (o : Order) (os : List Order) (p at : ℕ) (dst : List ℕ) (call : Outcome)
     (is : outRange false false rp store (o .begin) (o .end) (drop at dst) ≡ call) (n : ℕ) where
-  pub singly-wrote : call .report .number ≡ pos n
+  singly-wrote : call .report .number ≡ pos n
       → singly rp store (o ∷ os) p at dst ≡ andThen n (singly rp store os (suc p) (at + n) (take at dst ++ call .bytes))
   unfolding singly
   singly-wrote e = rw (is, e)
 
-  pub singly-refused : call .report .number ≡ negsuc n
+  singly-refused : call .report .number ≡ negsuc n
       → singly rp store (o ∷ os) p at dst ≡ record { report = record { number = negsuc n; position = p }; lengths = []; bytes = dst }
   unfolding singly
   singly-refused e = rw (is, e)
@@ -87,7 +87,7 @@ module _ (rp : OpusRepacketizer) (store : List ℕ) (s : sound rp ≡ true) (h :
         all,
       ) (agrees-then dst ls n c (calls os (ls ++ n ∷ []) (bs ++ vs)) a)
 
-  pub each-agrees : (os : List Order) (ls bs : List ℕ) → length bs ≤ length dst → Agrees dst ls (ones os (cutInto ls bs)) (calls os ls bs)
+  each-agrees : (os : List Order) (ls bs : List ℕ) → length bs ≤ length dst → Agrees dst ls (ones os (cutInto ls bs)) (calls os ls bs)
   unfolding each singly
   each-agrees [] ls bs m = (refl, (sym (append-nil ls), refl))
   each-agrees (o ∷ os) ls bs m =

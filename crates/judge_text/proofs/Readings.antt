@@ -35,10 +35,10 @@ unfolding verdictsOf
 verdicts-on s a more f = simp (ne-eqb (a .length) 0 f)
 
 module _ (s : List ℕ) (at : ℕ) where
-  pub verdicts-none : nextRecord s at .length ≡ 0 → verdictsOf s (readings s at) ≡ []
+  verdicts-none : nextRecord s at .length ≡ 0 → verdictsOf s (readings s at) ≡ []
   verdicts-none z = rw (readings-end s at z) (verdicts-end s (nextRecord s at) z)
 
-  pub verdicts-more : (nextRecord s at .length ≡ 0 → ⊥)
+  verdicts-more : (nextRecord s at .length ≡ 0 → ⊥)
       → verdictsOf s (readings s at) ≡ verdictFrom s at ∷ verdictsOf s (readings s (behind (nextRecord s at)))
   verdicts-more f =
       rw (readings-on s at (found s at f .asked) f) (verdicts-on s (nextRecord s at) (readings s (behind (nextRecord s at))) f)

@@ -38,7 +38,7 @@ bytes-drop zero s h = h
 bytes-drop (suc n) [] h = h
 bytes-drop (suc n) (a ∷ s) h = bytes-drop n s (bytes-tail h)
 
-pub bytes-set : (s : List ℕ) (i a : ℕ) → Bytes s → a < 256 → Bytes (set s i a)
+bytes-set : (s : List ℕ) (i a : ℕ) → Bytes s → a < 256 → Bytes (set s i a)
 bytes-set [] i a h k = h
 bytes-set (b ∷ s) zero a h k = bytes-cons k (bytes-tail h)
 bytes-set (b ∷ s) (suc i) a h k = bytes-cons (h .byte 0) (bytes-set s i a (bytes-tail h) k)

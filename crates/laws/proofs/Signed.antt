@@ -2,7 +2,7 @@
 -- Each fact is of a plain x : ℤ, by the two cases of ℤ; `natAbs x`, what a cast to an unsigned type gives, is a number to `omega`.
 -- Assumes nothing.
 use mathlib.Core.Path.{_≡_, refl}
-use mathlib.Core.Bool.{Bool, true, false, true≢false}
+use mathlib.Core.Bool.{true, false, true≢false}
 use Prim.Native.Nat.{ℕ, _^_, _<_}
 use native.Mathlib.Nat.{not-suc-le-zero}
 use native.Mathlib.Omega.{arith}

@@ -55,7 +55,7 @@ module _ (x : ℤ) where
       placed = ruled ++ line (32 ∷ []) place
 
       module _ (f : SFits w32 x) where
-        pub report-parts : reportLine x rule place ≡ placed
+        report-parts : reportLine x rule place ≡ placed
         unfolding reportLine line
         report-parts = rw (toZ-ofZ w32 x f, append-assoc (refusedLabel ++ integer x ++ (32 ∷ decimal rule)) (32 ∷ decimal place))
 

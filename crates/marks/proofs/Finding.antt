@@ -45,7 +45,7 @@ module _ (s : List ℕ) (at : ℕ) (h : at + 8 ≤ length s) where
       index-behind (take 8 (drop at s)) (drop (at + 8) s) none in
       omega (arith, ap (indexOf 75) apart, k, word-long)
 
-  pub word-some : (flagsOf (take 8 (drop at s)) ≡ 0 → ⊥)
+  word-some : (flagsOf (take 8 (drop at s)) ≡ 0 → ⊥)
       → (indexOf 75 (drop at s) ≡ indexOf 75 (take 8 (drop at s))) × (indexOf 75 (take 8 (drop at s)) < 8)
   word-some f =
       let some = flags-some (take 8 (drop at s)) f in

@@ -7,18 +7,18 @@
 --     last-none, last-behind            the last stream, where no byte is left for it, and where it is lent from its place on
 --     unpad-refused, unpad-all          unpad, by the verdict on the streams
 -- Assumes nothing.
-use Prim.Native.Nat.{ℕ, _+_, _-_, _≤_, _<_}
+use Prim.Native.Nat.{ℕ, _+_, _-_, _≤_}
 use native.Mathlib.Omega.{arith}
 use mathlib.Core.Path.{_≡_, refl, sym, ap, _∙_}
 use mathlib.Core.List.{List, [], _++_}
-use lib.IntN.{ℤ, pos}
+use lib.IntN.{ℤ}
 use lib.ListN.{length, take, drop, take-append-drop, length-take}
-use lib.Seq.{sets, length-take-le, take-take}
+use lib.Seq.{length-take-le, take-take}
 use mir.Syntax.{w32}
 use mir.Val.{toZ, ofZ, SFits}
 use mir.ValLaws.{toZ-ofZ}
 use lib.Dec.{eqb}
-use borrow.Author.Tests.{eq-eqb, ne-eqb, eqb-true, eqb-false}
+use borrow.Author.Tests.{ne-eqb, eqb-true, eqb-false}
 use borrow.Rule.Slice.PartAt.{part-to-end}
 use borrow.Rule.Slice.PartMut.{putMid}
 use Rattle.laws.proofs.Never.{never, by-test}
@@ -29,10 +29,9 @@ use Rattle.opus_defines.specs.declared.Answer.{Answer}
 use Rattle.opus_defines.specs.Outcome.{Effect, refusal, wrote, written, leaves, refuses}
 use Rattle.opus_defines.specs.declared.Refusal.{Refusal}
 use Rattle.opus_defines.specs.declared.Refusal.the-variants.{BadArg}
-use Rattle.opus_defines.specs.declared.Verdict.{Verdict}
 use Rattle.opus_defines.specs.declared.Verdict.the-variants.{Accepted, Refused}
 use Rattle.opus_defines.proofs.Outcomes.{meets}
-use Rattle.packet_pad.specs.Lengths.{lengthOf, lengthsOf, bounded}
+use Rattle.packet_pad.specs.Lengths.{lengthOf, lengthsOf}
 use Rattle.packet_pad.specs.Pad.{answered, padPacket}
 use Rattle.packet_pad.proofs.Calls.{pad-place}
 use Rattle.packet_pad.specs.declared.lengths.Lengths.the-variants.{Bad, Same, More}
@@ -124,7 +123,7 @@ module _ (s : List ℕ) (len new at : ℕ) (fits : len ≤ length s) where
       rw none
 
   module _ (inside : at ≤ len) (some : at ≡ len → ⊥) where
-    pub last-some : padLast (take len s) new (Past at) ≡ behind (take at s) (padPacket (take (len - at) (drop at s)) (new - at))
+    last-some : padLast (take len s) new (Past at) ≡ behind (take at s) (padPacket (take (len - at) (drop at s)) (new - at))
     last-some =
         let left : length (take len s) - at ≡ len - at = omega (arith, size) in
         rw (left, ne-eqb (len - at) 0 (λ z. some (omega arith)), take-take at len s inside, drop-take at len s)

@@ -12,10 +12,10 @@ use lib.ListN.{length, take, drop}
 use lib.Seq.{drop-drop, length-take-le}
 use Rattle.laws.specs.Bytes.{Bytes}
 use Rattle.laws.proofs.Bytes.{bytes-take}
-use Rattle.laws.proofs.Never.{never, by-test}
+use Rattle.laws.proofs.Never.{by-test}
 use Rattle.opus_defines.specs.Numbers.{refusalReport}
 use Rattle.opus_defines.specs.Rules.{ruleRefusal, shifted}
-use Rattle.opus_defines.specs.Outcome.{Effect, refusal, wrote, leaves}
+use Rattle.opus_defines.specs.Outcome.{leaves}
 use Rattle.opus_defines.specs.declared.Refusal.{Refusal}
 use Rattle.opus_defines.specs.declared.Rule.{Rule}
 use Rattle.opus_format.specs.Reading.{Reading, refused, accepted, read}

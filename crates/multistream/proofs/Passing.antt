@@ -57,7 +57,7 @@ pass-inside sd s n bytes e = go (read sd s) refl e
         omega (arith, taken-within sd s toc ns first taken bytes q)
 
 -- the bytes passed are there, and so is the place of what cannot be read
-pub reach-within : (sd : Bool) (s : List ℕ) → Bytes s → reach (passBy (read sd s)) ≤ length s
+reach-within : (sd : Bool) (s : List ℕ) → Bytes s → reach (passBy (read sd s)) ≤ length s
 unfolding ruleRefusal
 reach-within sd s bytes = go (read sd s) refl
   where

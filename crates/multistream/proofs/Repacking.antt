@@ -14,7 +14,6 @@ use native.Mathlib.Omega.{arith}
 use mathlib.Core.Path.{_≡_, refl, sym, ap, _∙_}
 use mathlib.Core.List.{List, [], _++_, append-nil, append-assoc}
 use mathlib.Core.Bool.{Bool, true, false}
-use lib.Dec.{ltb}
 use lib.ListN.{length, take, drop, length-append, length-drop}
 use lib.Seq.{sets, drop-drop, length-sets, length-take-le}
 use borrow.Author.Tests.{le-ltb}
@@ -22,7 +21,7 @@ use borrow.Rule.Slice.PartAt.{part-to-end}
 use borrow.Rule.Slice.PartMut.{putMid}
 use Rattle.laws.specs.Bytes.{Bytes}
 use Rattle.laws.proofs.Bytes.{bytes-drop, bytes-take}
-use Rattle.laws.proofs.Never.{never, by-test}
+use Rattle.laws.proofs.Never.{never}
 use Rattle.blocks.proofs.Sets.{sets-append, drop-sets-past, drop-take}
 use Rattle.opus_defines.proofs.Others.{shifted-none, shifted-more}
 use Rattle.opus_defines.specs.declared.Verdict.{Verdict}

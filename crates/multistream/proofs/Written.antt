@@ -85,7 +85,7 @@ module _ (k : ℕ) (p : List ℕ) (bytes : Bytes p) (xs : List Stream) (r : read
       rw (append-nil (filled new)) at
       (exchanged false none packet packet-bytes (last .last) found (filling-of spelled (new - last .at)) [] refl (found .rest))
 
-  pub refilled-size : (new : ℕ) → length p ≤ new → length (refilled new) ≡ new
+  refilled-size : (new : ℕ) → length p ≤ new → length (refilled new) ≡ new
   refilled-size new more =
       let size = filling-length false its-six its-frames (new - last .at) (omega (arith, never-longer spelled, length-drop (last .at) p, inside)) in
       omega (arith, length-append (take (last .at) p) (filled new), front-size, size, inside)
@@ -101,14 +101,14 @@ module _ (k : ℕ) (p : List ℕ) (bytes : Bytes p) (xs : List Stream) (r : read
       let left : length q - at ≡ 0 → ⊥ = λ z. omega (arith, spelled-some w, length-append (take at p) v, front-size) in
       pad-last q (suc k) new at (rw others (last .stays v)) ∙ rw (ne-eqb (length q - at) 0 left, front, back, pads w (new - at))
 
-  pub pad-writes : (new : ℕ) → padStreams (suc k) p new ≡ wrote 0 (refilled new)
+  pad-writes : (new : ℕ) → padStreams (suc k) p new ≡ wrote 0 (refilled new)
   pad-writes new = rw (take-append-drop (last .at) p) at (pad-exchanged packet spelled new)
 
   -- padding what was padded
-  pub pad-again : (n m : ℕ) → padStreams (suc k) (refilled n) m ≡ wrote 0 (refilled m)
+  pad-again : (n m : ℕ) → padStreams (suc k) (refilled n) m ≡ wrote 0 (refilled m)
   pad-again n m = pad-exchanged (filled n) (filling-of spelled (n - last .at)) m
 
-  pub refilled-holds : (new : ℕ) → readStreams k (refilled new) ≡ streams xs
+  refilled-holds : (new : ℕ) → readStreams k (refilled new) ≡ streams xs
   refilled-holds new = last .keeps (filled new) (filled-reads new)
 
 pub compact-within : (k : ℕ) (p : List ℕ) → Bytes p → (xs : List Stream) → readStreams k p ≡ streams xs

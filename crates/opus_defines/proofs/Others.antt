@@ -57,7 +57,7 @@ other-plain UnknownVersion u c = refl
 other-plain BadField u c = refl
 
 -- ---- unreadable, or not
-pub unreadable-or-not : (e : Refusal)
+unreadable-or-not : (e : Refusal)
     → ((rule : Rule) × ((place : ℕ) × (e ≡ Unreadable rule place))) ⊎ ((rule : Rule) (place : ℕ) → e ≡ Unreadable rule place → ⊥)
 unreadable-or-not (Unreadable rule place) = inl (rule, (place, refl))
 unreadable-or-not BadArg = inr (λ rule place q. never (cc))
@@ -99,7 +99,7 @@ refusal-few BadHeader = (21, omega arith, refl)
 refusal-few UnknownVersion = (22, omega arith, refl)
 refusal-few BadField = (23, omega arith, refl)
 
-pub rule-few : (rule : Rule) → ruleNumber rule < 9
+rule-few : (rule : Rule) → ruleNumber rule < 9
 rule-few R1 = omega arith
 rule-few R2 = omega arith
 rule-few R3 = omega arith

@@ -9,8 +9,8 @@ use mathlib.Core.Path.{_≡_, refl, sym, ap, _∙_}
 use mathlib.Core.List.{List, [], _∷_, _++_, append-assoc, append-nil}
 use mathlib.Core.Bool.{Bool, true, false}
 use lib.Dec.{ltb, eqb}
-use lib.ListN.{length, getD, take, drop, length-append, length-drop, take-append-drop}
-use lib.Seq.{take-all, take-append-add, length-take-le}
+use lib.ListN.{length, take, drop, length-append, length-drop, take-append-drop}
+use lib.Seq.{take-append-add}
 use borrow.Author.Tests.{ltb-true, ltb-false, eqb-false}
 use Rattle.laws.specs.Bytes.{Bytes}
 use Rattle.laws.proofs.Bytes.{bytes-after, bytes-tail, bytes-take}
@@ -26,7 +26,7 @@ use Rattle.opus_format.specs.Frames.{total}
 use Rattle.opus_format.specs.Format.{Lasts, Padding, Spells, Behind}
 use Rattle.opus_format.specs.Reading.{Front, broken, front, ownLast, lastLength, Fields, noFields, fields, before, readFields, together as fitted}
 use Rattle.opus_format.specs.Reading.{behindFields, unequal, ownEqual, equal, readPadding, frames3, sizeRule, lasts, pointed, accept, behindPadding}
-use Rattle.opus_format.specs.Reading.{read3, Reading, refused, accepted, readCode, read}
+use Rattle.opus_format.specs.Reading.{read3, refused, readCode, read}
 use Rattle.opus_format.specs.Broken.{Cramped, Unpaddable, EachFits, Start, plain, counted, Place, Breaks, empty, implied, shared, odd, first}
 use Rattle.opus_format.specs.Broken.{uncounted, long, equalPadding, undivided, unequalPadding, one, together, last, each}
 use Rattle.opus_format.proofs.Fields.{fields-was}

@@ -38,7 +38,7 @@ entry-between l n e i h =
     let t = every-at n (λ i. leb 25 (getD l i 0) && leb (getD l i 0) 600) e i h in
     (leb-true 25 x (both-left (leb 25 x) (leb x 600) t), leb-true x 600 (both-right (leb 25 x) (leb x 600) t))
 
-pub duration-between : (c : ℕ) → (25 ≤ duration c) × (duration c ≤ 600)
+duration-between : (c : ℕ) → (25 ≤ duration c) × (duration c ≤ 600)
 unfolding duration
 duration-between c =
     let silk = entry-between (100 ∷ 200 ∷ 400 ∷ 600 ∷ []) 4 refl (c % 4) (omega arith) in

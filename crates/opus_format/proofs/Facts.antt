@@ -2,13 +2,12 @@
 --     facts      count, lengths, places and time of an accepted packet
 --     said       its first bytes say how many frames it has
 -- Assumes nothing.
-use Prim.Native.Nat.{ℕ, suc, _+_, _*_, _/_, _%_, _≤_, _<_}
+use Prim.Native.Nat.{ℕ, suc, _+_, _*_, _%_, _≤_, _<_}
 use native.Mathlib.Omega.{arith}
 use mathlib.Core.Path.{_≡_, refl, sym, ap, _∙_}
 use mathlib.Core.List.{List, [], _∷_, _++_, append-assoc}
 use mathlib.Core.Bool.{Bool}
-use lib.Dec.{leb}
-use lib.ListN.{length, getD, take, drop, replicate, length-append, length-replicate, take-append-drop}
+use lib.ListN.{length, drop, length-append, length-replicate, take-append-drop}
 use lib.Seq.{length-take-le}
 use borrow.Author.Tests.{leb-true, le-leb}
 use Rattle.laws.specs.Bytes.{Bytes}
@@ -17,13 +16,13 @@ use Rattle.opus_defines.specs.declared.Answer.the-variants.{Number}
 use Rattle.opus_toc.specs.Toc.{upperSix, tocByte, configuration, duration, time}
 use Rattle.opus_toc.specs.Answers.{nbFrames}
 use Rattle.opus_toc.proofs.Samples.{lasts-at}
-use Rattle.opus_format.specs.Frames.{lengths, joined, cut, total, longest}
-use Rattle.opus_format.specs.Format.{Lasts, Layout, code0, code1, code2, code3equal, code3unequal, Spells}
+use Rattle.opus_format.specs.Frames.{joined, cut, total, longest}
+use Rattle.opus_format.specs.Format.{Lasts, Layout, code0, code1, code2, code3equal, code3unequal}
 use Rattle.opus_format.specs.Reading.{accepted, read}
 use Rattle.opus_format.proofs.Frames.{total-lengths}
 use Rattle.opus_format.proofs.Counts.{byte-count, lasts-few, two-last}
 use Rattle.opus_format.proofs.Padding.{padding-flag}
-use Rattle.opus_format.proofs.Sound.{Spelled, read-spelled}
+use Rattle.opus_format.proofs.Sound.{read-spelled}
 
 -- the frames of every layout last at most 120 ms
 pub layout-lasts : {sd : Bool} {six : ℕ} {head ns : List ℕ} {pad : ℕ} → Layout sd six head ns pad → Lasts six (length ns)

@@ -15,7 +15,7 @@ use borrow.Author.Tests.{ltb-false, eqb-true, le-ltb}
 use Rattle.laws.specs.Bytes.{Bytes}
 use Rattle.laws.proofs.Never.{never, by-test}
 use Rattle.laws.proofs.Bytes.{bytes-after}
-use Rattle.opus_size.specs.Size.{mostBytes, lengthField, lengthFields, readField, Field, noField, field}
+use Rattle.opus_size.specs.Size.{mostBytes, lengthFields, readField, Field, noField, field}
 use Rattle.opus_size.proofs.Fields.{field-read, field-was}
 use Rattle.opus_format.specs.Frames.{total, longest}
 use Rattle.opus_format.specs.Format.{ownLength}

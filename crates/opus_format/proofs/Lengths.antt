@@ -49,7 +49,7 @@ pub cut-append : (a b s : List ℕ) → cut (a ++ b) s ≡ cut a s ++ cut b (dro
 cut-append [] b s = refl
 cut-append (n ∷ a) b s = rw (cut-append a b (drop n s), drop-drop (total a) n s)
 
-pub cut-left : (ns a b : List ℕ) → total ns ≤ length a → cut ns (a ++ b) ≡ cut ns a
+cut-left : (ns a b : List ℕ) → total ns ≤ length a → cut ns (a ++ b) ≡ cut ns a
 cut-left [] a b h = refl
 cut-left (n ∷ ns) a b h =
     rw (take-append-le n a b (omega arith), drop-append-le n a b (omega arith), cut-left ns (drop n a) b (omega (arith, length-drop n a)))

@@ -20,7 +20,7 @@ module _ (h : OpusHead) (dst : List ℕ) (n : ℕ) (d : Done h dst n) where
   left : headWrite h dst .bytes ≡ sets dst 0 (headBytes h)
   left = ap (λ (o : Outcome). o .bytes) (write-all h dst (d .writable) (d .room))
 
-  pub done-bytes : take n (headWrite h dst .bytes) ≡ headBytes h
+  done-bytes : take n (headWrite h dst .bytes) ≡ headBytes h
   done-bytes = rw (left, d .count) (take-sets dst (headBytes h) (d .room))
 
   pub done-reads : InRange h → headRead (take n (headWrite h dst .bytes)) ≡ aHead h

@@ -74,7 +74,7 @@ module _ (s : List ℕ) where
       let g = l .begun in
       read-fields s (g .least) (g .lettered) (g .version) (l .long) ∙ ap (λ q. cond q (aHead (headOf s)) (noHead BadField)) r
 
-  pub read-wrong : Begun s → longAs (getD s 8 0) (length s) (needed s) ≡ false → headRead s ≡ noHead BadHeader
+  read-wrong : Begun s → longAs (getD s 8 0) (length s) (needed s) ≡ false → headRead s ≡ noHead BadHeader
   read-wrong g l = read-length s (g .least) (g .lettered) (g .version) l
 
   -- every reading is accepted, or refused by one of the three
@@ -155,7 +155,7 @@ module _ (s : List ℕ) (bytes : Bytes s) (h : 19 ≤ length s) where
     entry-count = entries-long es d;
   }
 
-  pub ranged : InRange (headOf s)
+  ranged : InRange (headOf s)
   ranged =
       let c = getD s 9 0 in
       let byte : c < 256 = bytes .byte 9 in
@@ -168,7 +168,7 @@ module _ (s : List ℕ) (bytes : Bytes s) (h : 19 ≤ length s) where
       (omega (arith, length-part-le s 21 c)))
 
 -- the length, tested or not
-pub is-long : (version n need : ℕ) → need ≤ n → (version ≡ 1 → n ≡ need) → longAs version n need ≡ true
+is-long : (version n need : ℕ) → need ≤ n → (version ≡ 1 → n ≡ need) → longAs version n need ≡ true
 is-long version n need h one =
     by-test (eqb version 1) (λ t. rw (t, eq-eqb n need (one (eqb-true version 1 t)))) (λ t. rw (t, le-leb need n h))
 

@@ -94,7 +94,7 @@ none-left : (n sum : ℕ) → entriesFit n sum [] ≡ true
 none-left zero sum = refl
 none-left (suc n) sum = refl
 
-pub entries-end : (s : List ℕ) (n sum i : ℕ) → length s ≤ i → fitFrom s n sum i ≡ true
+entries-end : (s : List ℕ) (n sum i : ℕ) → length s ≤ i → fitFrom s n sum i ≡ true
 entries-end s n sum i h = rw (drop-of-length-le s h) (none-left (n - i) sum)
 
 pub fits-end : (s : List ℕ) (n sum i : ℕ) (fits : Bool) → length s ≤ i → fits && fitFrom s n sum i ≡ fits

@@ -27,11 +27,11 @@ pub bytes-then : (h : OpusHead) (rest : List ℕ) → headBytes h ++ rest ≡ fi
 unfolding headBytes
 bytes-then h rest = refl
 
-pub bytes-plain : (h : OpusHead) → h .family ≡ 0 → headBytes h ≡ fixedOf h
+bytes-plain : (h : OpusHead) → h .family ≡ 0 → headBytes h ≡ fixedOf h
 unfolding headBytes
 bytes-plain h e = rw (eq-eqb (h .family) 0 e)
 
-pub bytes-table : (h : OpusHead) → (h .family ≡ 0 → ⊥) → headBytes h ≡ fixedOf h ++ (h .streams ∷ h .coupled ∷ take (h .channels) (h .mapping))
+bytes-table : (h : OpusHead) → (h .family ≡ 0 → ⊥) → headBytes h ≡ fixedOf h ++ (h .streams ∷ h .coupled ∷ take (h .channels) (h .mapping))
 unfolding headBytes
 bytes-table h o = rw (ne-eqb (h .family) 0 o)
 

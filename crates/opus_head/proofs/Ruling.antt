@@ -28,14 +28,14 @@ or-either : (sum e : ℕ) → Entry sum e → eqb e 255 || ltb e sum ≡ true
 or-either sum e (inl q) = rw (eq-eqb e 255 q)
 or-either sum e (inr q) = by-test (eqb e 255) (λ t. rw t) (λ t. rw (t, lt-ltb e sum q))
 
-pub entries-hold : (n sum : ℕ) (s : List ℕ) → 0 < sum → entriesFit n sum s ≡ true → (i : ℕ) → i < n → Entry sum (getD s i 0)
+entries-hold : (n sum : ℕ) (s : List ℕ) → 0 < sum → entriesFit n sum s ≡ true → (i : ℕ) → i < n → Entry sum (getD s i 0)
 entries-hold n sum [] p t i h = inr (omega arith)
 entries-hold zero sum (e ∷ s) p t i h = absurd (omega arith)
 entries-hold (suc n) sum (e ∷ s) p t zero h = either sum e (both-left (eqb e 255 || ltb e sum) (entriesFit n sum s) t)
 entries-hold (suc n) sum (e ∷ s) p t (suc i) h =
     entries-hold n sum s p (both-right (eqb e 255 || ltb e sum) (entriesFit n sum s) t) i (omega arith)
 
-pub entries-unused : (n sum : ℕ) (s : List ℕ) → entriesFit n sum s ≡ true → (i : ℕ) → n ≤ i → getD s i 0 ≡ 0
+entries-unused : (n sum : ℕ) (s : List ℕ) → entriesFit n sum s ≡ true → (i : ℕ) → n ≤ i → getD s i 0 ≡ 0
 entries-unused n sum [] t i h = refl
 entries-unused zero sum (e ∷ s) t zero h = eqb-true e 0 (both-left (eqb e 0) (entriesFit zero sum s) t)
 entries-unused zero sum (e ∷ s) t (suc i) h = entries-unused zero sum s (both-right (eqb e 0) (entriesFit zero sum s) t) i (omega arith)
@@ -43,7 +43,7 @@ entries-unused (suc n) sum (e ∷ s) t zero h = absurd (omega arith)
 entries-unused (suc n) sum (e ∷ s) t (suc i) h =
     entries-unused n sum s (both-right (eqb e 255 || ltb e sum) (entriesFit n sum s) t) i (omega arith)
 
-pub entries-test : (n sum : ℕ) (s : List ℕ) → ((i : ℕ) → i < n → Entry sum (getD s i 0))
+entries-test : (n sum : ℕ) (s : List ℕ) → ((i : ℕ) → i < n → Entry sum (getD s i 0))
     → ((i : ℕ) → n ≤ i → getD s i 0 ≡ 0) → entriesFit n sum s ≡ true
 entries-test zero sum [] f g = refl
 entries-test (suc n) sum [] f g = refl
@@ -171,7 +171,7 @@ ruled-lawful h v t =
           (m .one, m .two, at-own-place h m (fits-plain f n (s .channels) e));
     }
 
-pub lawful-means : (h : OpusHead) → Lawful h → h .family ≡ 0 → Means h
+lawful-means : (h : OpusHead) → Lawful h → h .family ≡ 0 → Means h
 lawful-means h l e =
     let o = l .one-stream e in
     record {

@@ -42,11 +42,11 @@ abbrev pub run : ℕ → ℕ → List ℕ → List ℕ
 run zero at s = []
 run (suc n) at s = getD s at 0 ∷ run n (suc at) s
 
-pub run-is : (n at : ℕ) (s : List ℕ) → at + n ≤ length s → run n at s ≡ take n (drop at s)
+run-is : (n at : ℕ) (s : List ℕ) → at + n ≤ length s → run n at s ≡ take n (drop at s)
 run-is zero at s h = refl
 run-is (suc n) at s h = rw (drop-cons s at 0 (omega arith)) (ap (λ l. getD s at 0 ∷ l) (run-is n (suc at) s (omega arith)))
 
-pub run-drop : (n at : ℕ) (s : List ℕ) → at + n ≤ length s → drop at s ≡ run n at s ++ drop (at + n) s
+run-drop : (n at : ℕ) (s : List ℕ) → at + n ≤ length s → drop at s ≡ run n at s ++ drop (at + n) s
 run-drop zero at s h = rw add-zero
 run-drop (suc n) at s h =
     let e : at + suc n ≡ suc at + n = omega arith in
@@ -61,7 +61,7 @@ module _ (s : List ℕ) (bytes : Bytes s) where
     part-bytes : Bytes (take n (drop at s))
     part-bytes = bytes-take n (drop at s) (bytes-drop at s bytes)
 
-    pub number-spelled : lowFirst n (numberAt s at n) ≡ run n at s
+    number-spelled : lowFirst n (numberAt s at n) ≡ run n at s
     number-spelled =
         ap (λ k. lowFirst k (numberAt s at n)) (sym taken) ∙ low-back (take n (drop at s)) part-bytes ∙ sym (run-is n at s h)
 
@@ -69,7 +69,7 @@ module _ (s : List ℕ) (bytes : Bytes s) where
     number-below = rw taken at (from-below (take n (drop at s)) part-bytes)
 
   module _ (long : 19 ≤ length s) where
-    pub gain-spelled : lowFirst 2 (bits16 (signed16 (numberAt s 16 2))) ≡ run 2 16 s
+    gain-spelled : lowFirst 2 (bits16 (signed16 (numberAt s 16 2))) ≡ run 2 16 s
     gain-spelled = ap (lowFirst 2) (bits-back (numberAt s 16 2) (number-below 2 16 (omega arith))) ∙ number-spelled 2 16 (omega arith)
 
     fields-spelled : (streams coupled : ℕ) (mapping : List ℕ)
@@ -133,7 +133,7 @@ zeros : (l : List ℕ) → ((i : ℕ) → getD l i 0 ≡ 0) → l ≡ replicate 
 zeros [] z = refl
 zeros (a ∷ l) z = rw (z 0, ← zeros l (λ i. z (suc i)))
 
-pub entries-whole : (m : List ℕ) (n : ℕ) → length m ≡ 255 → n ≤ 255 → ((i : ℕ) → n ≤ i → getD m i 0 ≡ 0) → entries (take n m) ≡ m
+entries-whole : (m : List ℕ) (n : ℕ) → length m ≡ 255 → n ≤ 255 → ((i : ℕ) → n ≤ i → getD m i 0 ≡ 0) → entries (take n m) ≡ m
 entries-whole m n long few unused =
     let k : length (take n m) ≡ n = length-take-le n m (omega arith) in
     let left : length (drop n m) ≡ 255 - n = rw length-drop (omega arith) in

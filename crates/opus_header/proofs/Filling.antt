@@ -25,11 +25,11 @@ unfolding full header
 length-full sd six frames n = simp (length-append, length-replicate) (omega arith)
 
 -- n missing bytes make the packet n bytes longer
-pub full-length : (sd : Bool) (six : ℕ) (frames : List (List ℕ)) (n : ℕ) → length (full sd six frames n) ≡ length (full sd six frames 0) + n
+full-length : (sd : Bool) (six : ℕ) (frames : List (List ℕ)) (n : ℕ) → length (full sd six frames n) ≡ length (full sd six frames 0) + n
 full-length sd six frames n = omega (arith, length-full sd six frames n, length-full sd six frames 0, chain-most n)
 
 -- code 3 takes at most one byte more than the compact form
-pub full-over : (sd : Bool) (six : ℕ) (frames : List (List ℕ)) → length (full sd six frames 0) ≤ length (compact sd six frames) + 1
+full-over : (sd : Bool) (six : ℕ) (frames : List (List ℕ)) → length (full sd six frames 0) ≤ length (compact sd six frames) + 1
 unfolding compact header
 full-over sd six frames =
     let whole = length-full sd six frames 0 in

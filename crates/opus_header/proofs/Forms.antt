@@ -3,21 +3,20 @@
 --     sums-total, sums-few            what the sum is, and how large the sums can be
 --     form-packet                     the packet that is written for a range is that of the form chosen for it
 -- Assumes nothing.
-use Prim.Native.Nat.{ℕ, zero, suc, _+_, _*_, _-_, _≤_, _<_}
+use Prim.Native.Nat.{ℕ, _+_, _*_, _-_, _≤_}
 use native.Mathlib.Omega.{arith}
-use mathlib.Core.Path.{_≡_, refl, sym, ap, _∙_}
-use mathlib.Core.List.{List, [], _∷_, _++_, append-nil}
+use mathlib.Core.Path.{_≡_, refl, ap}
+use mathlib.Core.List.{List, [], _∷_, append-nil}
 use mathlib.Core.Bool.{Bool, true, false, cond}
 use lib.Dec.{ltb}
-use lib.ListN.{length, replicate, length-append, length-map}
-use borrow.Author.Tests.{ltb-true, ltb-false}
+use lib.ListN.{length, length-append}
 use Rattle.laws.proofs.Never.{by-test}
 use Rattle.opus_size.specs.Size.{mostBytes, lengthField, lengthFields}
 use Rattle.opus_size.proofs.Fields.{width}
 use Rattle.opus_format.specs.Frames.{lengths, joined, total, longest}
 use Rattle.opus_format.specs.Format.{ownLength}
 use Rattle.opus_format.proofs.Lengths.{total-most}
-use Rattle.opus_header.specs.Header.{same, firsts, last, sizes, chain, padBytes, header, compactHeader, fullHeader}
+use Rattle.opus_header.specs.Header.{same, firsts, sizes, compactHeader, fullHeader}
 use Rattle.opus_header.specs.Compact.{compact, full, filling}
 use Rattle.opus_header.specs.Sums.{sumsOf, frontOf, headerOf}
 use Rattle.opus_header.specs.Forms.{compactForm, fillingForm, formFor, frontBytes, headerBytes, compactBytes, missing, formPacket}
@@ -26,7 +25,6 @@ use Rattle.opus_header.specs.declared.Form.{Form}
 use Rattle.opus_header.specs.declared.Form.the-variants.{Short, Full}
 use Rattle.opus_header.proofs.Chain.{chain-most}
 use Rattle.opus_header.proofs.Shortest.{length-header}
-use Rattle.opus_header.proofs.Filling.{full-length}
 
 front-bytes : (six count : ℕ) (alike : Bool) (form : Form) → length (frontOf six count alike form) ≡ frontBytes form
 front-bytes six count alike Short = refl
@@ -89,7 +87,7 @@ unfolding sumsOf
 sums-total ns e = ap (λ (x : Sums). x .total) e
 
 -- 48 frames of at most 1275 bytes
-pub total-few : (ns : List ℕ) → length ns ≤ 48 → longest ns ≤ mostBytes → total ns ≤ 61200
+total-few : (ns : List ℕ) → length ns ≤ 48 → longest ns ≤ mostBytes → total ns ≤ 61200
 total-few ns h k = omega (arith, total-most ns k)
 
 pub sums-few : (ns : List ℕ) (m : Sums) → m ≡ sumsOf ns → length ns ≤ 48 → longest ns ≤ mostBytes → (m .sizes ≤ 96) × (m .total ≤ 61200)
@@ -101,7 +99,7 @@ sums-few ns m e h k =
 
 -- ---- packets as forms
 module _ (sd : Bool) (six : ℕ) (frames : List (List ℕ)) where
-  pub compact-formed : compact sd six frames ≡ formPacket sd six (lengths frames) (compactForm (length (lengths frames))) (joined frames)
+  compact-formed : compact sd six frames ≡ formPacket sd six (lengths frames) (compactForm (length (lengths frames))) (joined frames)
   unfolding compact formPacket
   compact-formed =
       by-test (ltb (length (lengths frames)) 3) (λ e. rw (e, append-nil)) (λ e. rw (e, append-nil))
@@ -122,7 +120,7 @@ module _ (sd : Bool) (six : ℕ) (frames : List (List ℕ)) where
       ) (omega arith))
       (λ e. rw (e, append-nil) (omega arith))
 
-  pub filling-formed : (m : ℕ)
+  filling-formed : (m : ℕ)
       → filling sd six frames m
       ≡ formPacket sd six (lengths frames) (fillingForm (length (lengths frames)) (length (compact sd six frames)) m) (joined frames)
   unfolding filling full formPacket

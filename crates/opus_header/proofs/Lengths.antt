@@ -4,7 +4,7 @@
 --     same-replicate, replicate-same, replicate-last                      lengths that are all the same
 --     same-all, all-agree, all-differ                                     one length more that agrees, or does not
 -- Assumes nothing.
-use Prim.Native.Nat.{ℕ, zero, suc, _+_, _-_, _≤_, _<_}
+use Prim.Native.Nat.{ℕ, zero, suc, _+_, _-_, _≤_}
 use native.Mathlib.Omega.{arith}
 use mathlib.Core.Path.{_≡_, refl, ap}
 use mathlib.Core.List.{List, [], _∷_, _++_}
@@ -19,7 +19,7 @@ use Rattle.opus_format.proofs.Lengths.{longest-at}
 use Rattle.opus_header.specs.Header.{allAre, same, firsts, last}
 
 -- ---- all but the last, and the last
-pub firsts-last : (n : ℕ) (ns : List ℕ) → firsts (n ∷ ns) ++ (last (n ∷ ns) ∷ []) ≡ n ∷ ns
+firsts-last : (n : ℕ) (ns : List ℕ) → firsts (n ∷ ns) ++ (last (n ∷ ns) ∷ []) ≡ n ∷ ns
 firsts-last n [] = refl
 firsts-last n (m ∷ ns) = rw (firsts-last m ns)
 

@@ -28,7 +28,7 @@ module _ (sd : Bool) (six : ℕ) {p : ℕ} {chain : List ℕ} {pad : ℕ} (ns : 
       → Layout sd six (tocByte six 3 ∷ countByte 1 p count ∷ (chain ++ (lengthFields ms ++ ownLength sd n))) ns pad
   unequal-layout count ms n c e l = rw (← e, ← c) (code3unequal ms n (rw (← c) at l) k)
 
-pub full-layout : (sd : Bool) (six : ℕ) (ns : List ℕ) (n : ℕ) → Lasts six (length ns) → Layout sd six (fullHeader sd six ns n) ns (padBytes n)
+full-layout : (sd : Bool) (six : ℕ) (ns : List ℕ) (n : ℕ) → Lasts six (length ns) → Layout sd six (fullHeader sd six ns n) ns (padBytes n)
 unfolding header
 full-layout sd six ns n l =
     by-test (same ns)

@@ -1,7 +1,7 @@
 -- The packets that are written for frames: the compact one, and the one that fills a destination.
 use Prim.Native.Nat.{ℕ, _-_}
 use mathlib.Core.List.{List, _++_}
-use mathlib.Core.Bool.{Bool, cond, _&&_}
+use mathlib.Core.Bool.{Bool, cond}
 use lib.Dec.{ltb}
 use lib.ListN.{length, replicate}
 use Rattle.opus_format.specs.Frames.{lengths, joined}

@@ -2,7 +2,7 @@
 -- section 3.2 and appendix B. Every packet written is such a header, the frames one behind another, and zeros.
 use Prim.Native.Nat.{ℕ, _+_, _*_, _-_, _/_}
 use mathlib.Core.List.{List, [], _∷_, _++_}
-use mathlib.Core.Bool.{Bool, true, false, cond, _&&_}
+use mathlib.Core.Bool.{Bool, true, cond, _&&_}
 use lib.Dec.{ltb, eqb}
 use lib.ListN.{length, replicate}
 use Rattle.opus_size.specs.Size.{lengthFields}

@@ -7,15 +7,14 @@
 use Prim.Native.Nat.{ℕ, suc, _+_, _*_, _-_, _≤_, _<_}
 use native.Mathlib.Omega.{arith}
 use native.Mathlib.Numerals.{add-one}
-use mathlib.Core.Path.{_≡_, refl, sym, ap, _∙_}
+use mathlib.Core.Path.{_≡_, _∙_}
 use mathlib.Core.List.{List, [], _∷_}
-use mathlib.Core.Bool.{Bool, true, false}
 use lib.Dec.{ltb, leb}
 use lib.ListN.{length, getD, drop, drop-of-length-le, length-drop}
 use lib.Seq.{drop-cons}
 use borrow.Author.Tests.{le-ltb, leb-true, leb-false, ltb-true, ltb-false, ne-eqb}
 use Rattle.laws.proofs.Never.{never, by-test}
-use Rattle.opus_size.specs.Size.{readField, Field, noField, field}
+use Rattle.opus_size.specs.Size.{readField, noField, field}
 use Rattle.opus_size.specs.Answers.{placed, sizeAt, noSize, sizeTold, parseSize}
 use Rattle.opus_size.specs.declared.SizeAt.the-variants.{Whole, Short}
 use Rattle.opus_defines.specs.declared.Verdict.the-variants.{Accepted}

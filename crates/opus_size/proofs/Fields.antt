@@ -2,7 +2,7 @@
 --     field-read, field-was     both ways, with anything behind the field
 --     field-bytes, width        a field is one or two bytes
 -- Assumes nothing.
-use Prim.Native.Nat.{ℕ, _+_, _*_, _-_, _/_, _%_, _≤_, _<_, max}
+use Prim.Native.Nat.{ℕ, _+_, _*_, _-_, _/_, _%_, _≤_, _<_}
 use native.Mathlib.Omega.{arith}
 use mathlib.Core.Path.{_≡_, refl, sym, _∙_}
 use mathlib.Core.List.{List, [], _∷_, _++_}
@@ -13,7 +13,7 @@ use borrow.Author.Tests.{ltb-true, ltb-false, lt-ltb, le-ltb}
 use Rattle.laws.specs.Bytes.{Bytes}
 use Rattle.laws.proofs.Never.{never, by-test}
 use Rattle.laws.proofs.Bytes.{bytes-nil, bytes-cons}
-use Rattle.opus_size.specs.Size.{mostBytes, lengthField, readField, noField, field}
+use Rattle.opus_size.specs.Size.{mostBytes, lengthField, readField, field}
 
 -- the two forms of a field
 pub short : (n : ℕ) → n < 252 → lengthField n ≡ n ∷ []

@@ -1,8 +1,7 @@
 -- Numbers of packets by computation (document 02, M-107).
 -- Assumes nothing.
-use Prim.Native.Nat.{ℕ}
 use mathlib.Core.Path.{_≡_, refl}
-use mathlib.Core.List.{List, [], _∷_, map}
+use mathlib.Core.List.{[], _∷_, map}
 use mathlib.Core.Bool.{true, false}
 use Rattle.packet_numbers.specs.Numbers.{numbered, numberAfter, told}
 

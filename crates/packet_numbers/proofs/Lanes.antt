@@ -149,7 +149,7 @@ pub record Sums (ns : List ℕ) (sum i : ℕ) : Type 0 where
   pub most : total (take i ns) ≤ 1023 * i
   pub short : longest (take i ns) < 1024
 
-pub sums-none : (ns : List ℕ) → Sums ns 0 0
+sums-none : (ns : List ℕ) → Sums ns 0 0
 sums-none ns = record { a = 0; b = 0; c = 0; d = 0; sum-is = omega arith; all = omega arith; most = omega arith; short = omega arith }
 
 length-small : (x : ℕ) → x < 65536 → bitAnd x 0xFC00 ≡ 0 → x < 1024
@@ -319,7 +319,7 @@ module _ {ns : List ℕ} {sum i : ℕ} (g : Sums ns sum i) (few : i ≤ 48) wher
   pub all-fit : (x : ℕ) → x < 65536 → sum + sum / 4294967296 + (sum + sum / 4294967296) / 65536 + x < 2 ^ 64
   all-fit x h = rw (second, upper) (omega (arith, g .sum-is, g .all, g .most))
 
-  pub sums-all : (x : ℕ) → x < 1024 → (sum + sum / 4294967296 + (sum + sum / 4294967296) / 65536 + x) % 65536 ≡ total (take i ns) + x
+  sums-all : (x : ℕ) → x < 1024 → (sum + sum / 4294967296 + (sum + sum / 4294967296) / 65536 + x) % 65536 ≡ total (take i ns) + x
   sums-all x h =
       let y = sum + sum / 4294967296 + (sum + sum / 4294967296) / 65536 + x in
       let u = g .b + g .d + 65536 * (g .c + 65536 * g .d) + (g .c + 65536 * g .d) in

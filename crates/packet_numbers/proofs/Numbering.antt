@@ -28,7 +28,7 @@ use Rattle.packet_numbers.specs.Numbers.{steps, numbered, numberAfter, e
 or-least : (a b : ℕ) → a ≤ bitOr a b
 or-least a b = omega (arith, or-add-and a b, and-le-r a b)
 
-pub or-small : (a b : ℕ) → leb (bitOr a b) 1 ≡ leb a 1 && leb b 1
+or-small : (a b : ℕ) → leb (bitOr a b) 1 ≡ leb a 1 && leb b 1
 or-small a b =
     by-test (leb a 1)
     (λ s. by-test (leb b 1)

@@ -1,7 +1,7 @@
 -- Rule and place in the answers of pad and unpad (document 02, M-100).
 -- Assumes nothing.
 use Prim.Native.Nat.{ℕ}
-use mathlib.Core.Path.{_≡_, refl, sym}
+use mathlib.Core.Path.{_≡_, refl}
 use mathlib.Core.List.{List}
 use mathlib.Core.Bool.{false}
 use lib.Dec.{eqb}
@@ -20,7 +20,7 @@ use Rattle.packet_pad.specs.declared.lengths.Lengths.the-variants.{Bad, 
 use Rattle.packet_pad.proofs.Given.{more-is}
 
 -- what is read of p, in a buffer s
-pub pad-packet-named : (s p : List ℕ) (m : ℕ) → Named p (leaves s (padPacket p m) .report)
+pad-packet-named : (s p : List ℕ) (m : ℕ) → Named p (leaves s (padPacket p m) .report)
 unfolding padPacket
 pad-packet-named s p m = go (read false p) refl
   where

@@ -16,10 +16,10 @@ use borrow.Author.Tests.{eqb-true, eqb-false}
 use Rattle.laws.proofs.Never.{by-test}
 use Rattle.blocks.proofs.Sets.{sets-over, take-sets}
 use Rattle.opus_defines.specs.Numbers.{plain}
-use Rattle.opus_defines.specs.Outcome.{Outcome, writes}
+use Rattle.opus_defines.specs.Outcome.{Outcome}
 use Rattle.opus_format.specs.Format.{Spells}
 use Rattle.opus_header.specs.Compact.{compact, filling}
-use Rattle.opus_header.proofs.Rebuilt.{spelled-some, compact-of, never-longer}
+use Rattle.opus_header.proofs.Rebuilt.{compact-of, never-longer}
 use Rattle.opus_header.proofs.Filling.{filling-length}
 use Rattle.packet_pad.specs.Pad.{padsTo, padded}
 use Rattle.packet_pad.specs.Unpad.{unpadded}

@@ -109,7 +109,7 @@ pub refused-as : {a : Adding} {e : Refusal} {h : Head} {len packet store : List 
 refused-as p q = (rw (p, q .0), (rw p, q .1))
 
 -- ---- what 001 asks before it reads
-pub stays-empty : (rp : OpusRepacketizer) (p : List ℕ) → rp .«nb_frames» ≡ 0 → staysOut rp p ≡ false
+stays-empty : (rp : OpusRepacketizer) (p : List ℕ) → rp .«nb_frames» ≡ 0 → staysOut rp p ≡ false
 unfolding staysOut
 stays-empty rp [] e = refl
 stays-empty rp (toc ∷ s) e = rw (eq-eqb (rp .«nb_frames») 0 e)
@@ -299,7 +299,7 @@ pub record Took (sd : Bool) (rp : OpusRepacketizer) (p : List ℕ) (toc : ℕ) (
   pub stays : staysOut rp p ≡ false
   pub short : length p ≤ 65535
 
-pub took-packet : (sd : Bool) (rp : OpusRepacketizer) (p : List ℕ) (toc : ℕ) (ns : List ℕ) (first : ℕ) → packetAdds sd rp p ≡ takes toc ns first
+took-packet : (sd : Bool) (rp : OpusRepacketizer) (p : List ℕ) (toc : ℕ) (ns : List ℕ) (first : ℕ) → packetAdds sd rp p ≡ takes toc ns first
     → Took sd rp p toc ns first
 took-packet sd rp p toc ns first e =
     by-test (ltb 65535 (length p)) (λ k. never (let q = rw k at e in cc))

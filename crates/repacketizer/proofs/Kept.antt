@@ -15,12 +15,10 @@ use borrow.Author.Tests.{eq-eqb, ne-eqb}
 use Rattle.laws.proofs.Never.{never}
 use Rattle.opus_defines.specs.declared.Verdict.the-variants.{Accepted}
 use Rattle.opus_toc.specs.Toc.{configuration, samples}
-use Rattle.opus_format.specs.Frames.{total}
 use Rattle.opus_format.specs.Reading.{accepted, read}
 use Rattle.blocks.specs.Blocks.{part, copied}
 use Rattle.blocks.proofs.Sets.{sets-before, length-part-le}
 use Rattle.repacketizer.specs.declared.OpusRepacketizer.{OpusRepacketizer}
-use Rattle.repacketizer.specs.Collector.{heldLengths}
 use Rattle.repacketizer.specs.Adding.{Addition, refusal, takes, withFrames, leavesAdd, adds, added}
 use Rattle.repacketizer.proofs.Adds.{taken, took}
 

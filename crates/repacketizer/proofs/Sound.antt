@@ -46,7 +46,7 @@ lasts-timed {toc} {count} {each} b e l =
     record { size = e; time = time-is toc count each b e ∙ le-leb (count * duration (configuration toc)) 1200 (l .short) }
 
 -- ---- an empty collector
-pub none-framed : (rp : OpusRepacketizer) → rp .«nb_frames» ≡ 0 → framed rp ≡ true
+none-framed : (rp : OpusRepacketizer) → rp .«nb_frames» ≡ 0 → framed rp ≡ true
 unfolding framed
 none-framed rp e = rw (eq-eqb (rp .«nb_frames») 0 e)
 
@@ -121,7 +121,7 @@ module _ (rp : OpusRepacketizer) where
       right-time t = rw (framed-is rp z, ← e, f, eq-eqb each each refl, t)
 
 -- the numbers are no part of the frames
-pub framed-bare : (h : Head) (len packet : List ℕ) → framed (collectorOf h len packet) ≡ framed (bare h len)
+framed-bare : (h : Head) (len packet : List ℕ) → framed (collectorOf h len packet) ≡ framed (bare h len)
 unfolding framed
 framed-bare h len packet = refl
 

@@ -1,6 +1,6 @@
 -- Strict adds (document 02, M-105).
 --     by-adds                  what an add of either kind leaves, by what it takes
---     took-by, took-packet-by  one that takes frames has read them, and they go with those held
+--     took-by                  one that takes frames has read them, and they go with those held
 --     strict-clean, by-clean   where padding is clean, the strict add is the ordinary one
 --     dirty-read               a packet whose padding is dirty can be read
 --     has-.., why-..           the tests of the code
@@ -11,10 +11,9 @@
 --     by-uncounted             a packet of code 0, 1 or 2 has no padding to be asked for
 -- Assumes nothing.
 use Prim.Native.Nat.{ℕ, _≤_, _<_}
-use native.Mathlib.Omega.{arith}
 use mathlib.Core.Path.{_≡_, refl, sym, _∙_}
 use mathlib.Core.List.{List, []}
-use mathlib.Core.Bool.{Bool, true, false, cond, _&&_}
+use mathlib.Core.Bool.{Bool, true, false, _&&_}
 use lib.Dec.{ltb, leb}
 use lib.IntN.{negsuc}
 use lib.ListN.{length, getD}
@@ -22,7 +21,6 @@ use borrow.Author.Tests.{leb-true, le-leb, lt-leb, lt-ltb, le-ltb, ltb-true, ltb
 use Rattle.laws.proofs.Never.{never, by-test}
 use Rattle.laws.proofs.Every.{both-left, both-right}
 use Rattle.opus_defines.specs.declared.Refusal.{Refusal}
-use Rattle.opus_defines.specs.declared.Verdict.the-variants.{Refused}
 use Rattle.opus_defines.specs.declared.Refusal.the-variants.{BadArg, InvalidPacket, InvalidState, DirtyPadding}
 use Rattle.opus_defines.proofs.Outcomes.{rule-number}
 use Rattle.opus_toc.specs.Toc.{code}
@@ -34,8 +32,8 @@ use Rattle.repacketizer.specs.declared.Head.{Head}
 use Rattle.repacketizer.specs.Collector.{leastStore, sound}
 use Rattle.repacketizer.specs.Adding.{noAdd, staysOut, Addition, refusal, takes, leavesAdd, readAdds, unlessDirty, adds, addsBy, addPacket, added}
 use Rattle.repacketizer.specs.Adding.{packetAdds, addedStrictly, addedBy, addedNumber}
-use Rattle.repacketizer.specs.Parts.{collectorOf, bare, hasDirt, whyDirty, packetAddsBy, addPacketBy}
-use Rattle.repacketizer.proofs.Adds.{Took, took, took-packet, stays-lengths}
+use Rattle.repacketizer.specs.Parts.{collectorOf, bare, hasDirt, whyDirty, addPacketBy}
+use Rattle.repacketizer.proofs.Adds.{Took, took, stays-lengths}
 
 pub by-adds : (strict sd : Bool) (rp : OpusRepacketizer) (p store : List ℕ)
     → addedBy strict sd rp p store ≡ leavesAdd rp p store (addsBy strict sd rp p (length store))
@@ -53,11 +51,6 @@ pub took-by : (strict sd : Bool) (rp : OpusRepacketizer) (p : List ℕ) (room to
     → addsBy strict sd rp p room ≡ takes toc ns first → Took sd rp p toc ns first
 took-by false sd rp p room toc ns first e = took sd rp p room toc ns first e
 took-by true sd rp p room toc ns first e = took sd rp p room toc ns first (unless-takes (dirtyPacket sd p) (adds sd rp p room) e)
-
-pub took-packet-by : (strict sd : Bool) (rp : OpusRepacketizer) (p : List ℕ) (toc : ℕ) (ns : List ℕ) (first : ℕ)
-    → packetAddsBy strict sd rp p ≡ takes toc ns first → Took sd rp p toc ns first
-took-packet-by false sd rp p toc ns first e = took-packet sd rp p toc ns first e
-took-packet-by true sd rp p toc ns first e = took-packet sd rp p toc ns first (unless-takes (dirtyPacket sd p) (packetAdds sd rp p) e)
 
 -- ---- clean padding
 unless-clean : (x : Addition) → unlessDirty false x ≡ x
@@ -78,7 +71,7 @@ module _ (sd : Bool) (rp : OpusRepacketizer) (p store : List ℕ) where
   unfolding addPacketBy
   strict-long h = rw (lt-ltb 65535 (length p) h)
 
-  pub strict-same : hasDirt sd p ≡ false → addPacketBy true sd rp p store ≡ addPacketBy false sd rp p store
+  strict-same : hasDirt sd p ≡ false → addPacketBy true sd rp p store ≡ addPacketBy false sd rp p store
   unfolding addPacketBy
   strict-same n =
       by-test (ltb 65535 (length p)) (λ t. strict-long (ltb-true 65535 (length p) t))
@@ -103,7 +96,7 @@ unfolding added addedStrictly
 by-tight false sd rp p store s h = rw (s, lt-ltb (length store) leastStore h)
 by-tight true sd rp p store s h = rw (s, lt-ltb (length store) leastStore h)
 
-pub by-ordinary : (sd : Bool) (rp : OpusRepacketizer) (p store : List ℕ) → addPacketBy false sd rp p store ≡ addPacket sd rp p store
+by-ordinary : (sd : Bool) (rp : OpusRepacketizer) (p store : List ℕ) → addPacketBy false sd rp p store ≡ addPacket sd rp p store
 unfolding addPacketBy addPacket
 by-ordinary sd rp p store = refl
 
@@ -120,13 +113,13 @@ dirty-read sd p d = go (read sd p) refl d
     go (accepted toc ns first end) q d = (toc, ns, first, end, q)
 
 module _ (sd : Bool) (rp : OpusRepacketizer) (p store : List ℕ) (d : hasDirt sd p ≡ true) where
-  pub dirt-short : length p ≤ 65535
+  dirt-short : length p ≤ 65535
   dirt-short = leb-true (length p) 65535 (both-left (leb (length p) 65535) (dirtyPacket sd p) d)
 
-  pub dirt-dirty : dirtyPacket sd p ≡ true
+  dirt-dirty : dirtyPacket sd p ≡ true
   dirt-dirty = both-right (leb (length p) 65535) (dirtyPacket sd p) d
 
-  pub strict-dirty : addPacketBy true sd rp p store ≡ noAdd (whyDirty rp p) rp store
+  strict-dirty : addPacketBy true sd rp p store ≡ noAdd (whyDirty rp p) rp store
   unfolding addPacketBy
   strict-dirty =
       let r = dirty-read sd p dirt-dirty in
@@ -164,7 +157,7 @@ module _ (h : Head) (len p : List ℕ) where
   pub why-dirt : staysOut (bare h []) p ≡ false → DirtyPadding ≡ whyDirty (bare h []) p
   why-dirt o = rw o
 
-  pub dirty-as : (packet : List ℕ) (sd : Bool) (store : List ℕ) → hasDirt sd p ≡ true → {x : Refusal} → x ≡ whyDirty (bare h []) p
+  dirty-as : (packet : List ℕ) (sd : Bool) (store : List ℕ) → hasDirt sd p ≡ true → {x : Refusal} → x ≡ whyDirty (bare h []) p
       → addPacketBy true sd (collectorOf h len packet) p store ≡ noAdd x (collectorOf h len packet) store
   dirty-as packet sd store d q = strict-dirty sd (collectorOf h len packet) p store d ∙ rw (q, stays-lengths h len [] packet [] p)
 

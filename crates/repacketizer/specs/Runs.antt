@@ -2,7 +2,7 @@
 use Prim.Native.Nat.{ℕ, _+_, _≤_, _<_}
 use mathlib.Core.Path.{_≡_}
 use mathlib.Core.List.{List, [], _∷_, _++_}
-use mathlib.Core.Bool.{Bool, true, false}
+use mathlib.Core.Bool.{Bool, true}
 use lib.ListN.{length, getD, replicate}
 use Rattle.laws.specs.Bytes.{Bytes}
 use Rattle.opus_defines.specs.declared.Verdict.{Verdict}

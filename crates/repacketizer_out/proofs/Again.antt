@@ -131,10 +131,10 @@ module _ (sd : Bool) (six : ℕ) (k : six < 64) {s : State} {done : List (List �
       cond-elim (λ (n : ℕ). upperSix n ≡ six) (eqb (s .rp .«nb_frames») 0) toc (s .rp .toc) (λ e. spelled-back spells .1)
       (λ e. h .same (omega (arith, count, eqb-false (s .rp .«nb_frames») 0 e)))
 
-  pub piece-accepted : adding s one .answer .verdict ≡ Accepted
+  piece-accepted : adding s one .answer .verdict ≡ Accepted
   piece-accepted = rw accepted-is
 
-  pub piece-held : Holds six (afterAdd s one) (done ++ piece)
+  piece-held : Holds six (afterAdd s one) (done ++ piece)
   piece-held =
       record {
         ready = add-ready s one (h .ready) bytes;

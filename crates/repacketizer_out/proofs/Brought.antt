@@ -11,7 +11,7 @@ use mathlib.Core.List.{List, [], _∷_, _++_, append-nil}
 use mathlib.Core.Bool.{true, false}
 use lib.Dec.{ltb}
 use lib.IntN.{ℤ, pos, negsuc}
-use lib.ListN.{length, getD, drop, replicate, length-drop, length-map}
+use lib.ListN.{length, drop, replicate, length-drop, length-map}
 use borrow.Author.Tests.{eq-eqb, ne-eqb, le-ltb, ltb-false}
 use Rattle.laws.proofs.Never.{by-test}
 use Rattle.opus_defines.specs.Bounds.{mostPacket}
@@ -26,7 +26,7 @@ use Rattle.repacketizer.specs.Collector.{held, heldNumbers, leastStore}
 use Rattle.repacketizer.specs.Runs.{State, Ready, Arrival, framesIn, framesOfAll, blocks}
 use Rattle.repacketizer.proofs.Runs.{Came, AllCame}
 use Rattle.repacketizer_out.specs.Output.{output}
-use Rattle.repacketizer_out.specs.Numbered.{broughtBy, outputSome, outputOf, outNumbered}
+use Rattle.repacketizer_out.specs.Numbered.{broughtBy, outputOf, outNumbered}
 use Rattle.repacketizer_out.proofs.Numbered.{some-output}
 
 -- ---- a block
@@ -54,7 +54,7 @@ brought-behind k j [] h = refl
 brought-behind k j (a ∷ l) h =
     block-other k j (λ e. omega arith) (framesIn a) (framesOfAll l) (blocks (j + 1) l) ∙ brought-behind k (j + 1) l (omega arith)
 
-pub brought-at : (j : ℕ) (before : List Arrival) (a : Arrival) (after : List Arrival)
+brought-at : (j : ℕ) (before : List Arrival) (a : Arrival) (after : List Arrival)
     → let l = before ++ (a ∷ after) in broughtBy (j + length before) (blocks j l) (framesOfAll l) ≡ framesIn a
 brought-at j [] a after =
     rw (add-zero j)

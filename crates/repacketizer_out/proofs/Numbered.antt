@@ -4,13 +4,13 @@
 --     range-many, ..                              where they stand, by the tests of the code
 --     numbered-range                              output by number is output of that range
 -- Assumes nothing.
-use Prim.Native.Nat.{ℕ, zero, suc, _+_, _-_, _≤_, _<_}
+use Prim.Native.Nat.{ℕ, suc, _+_, _-_, _≤_, _<_}
 use native.Mathlib.Nat.{zero-add, add-assoc}
 use native.Mathlib.Numerals.{add-one}
 use native.Mathlib.Omega.{arith}
-use mathlib.Core.Path.{_≡_, refl, sym, ap, _∙_}
+use mathlib.Core.Path.{_≡_, refl, sym, ap}
 use mathlib.Core.List.{List, [], _∷_, _++_}
-use mathlib.Core.Bool.{Bool, true, false, _||_, _&&_}
+use mathlib.Core.Bool.{Bool, true, false, _||_}
 use lib.Dec.{ltb, leb, eqb}
 use lib.IntN.{ℤ, pos, negsuc}
 use lib.ListN.{length, getD, take, length-take}
@@ -27,7 +27,7 @@ use Rattle.opus_defines.specs.declared.Count.the-variants.{Negative}
 use Rattle.opus_toc.specs.Toc.{upperSix}
 use Rattle.packet_numbers.specs.Numbers.{steps, numbered}
 use Rattle.repacketizer.specs.declared.OpusRepacketizer.{OpusRepacketizer}
-use Rattle.repacketizer.specs.Collector.{heldNumbers, held, leastStore, sound}
+use Rattle.repacketizer.specs.Collector.{held, leastStore, sound}
 use Rattle.repacketizer.proofs.Sound.{sound-framed, sound-numbered}
 use Rattle.repacketizer.proofs.Held.{holding}
 use Rattle.repacketizer_out.specs.declared.by_number.Range.{Range}
@@ -48,7 +48,7 @@ one-few : (b : Bool) → oneIf b ≤ 1
 one-few true = omega arith
 one-few false = omega arith
 
-pub below-few : (k : ℕ) (ks : List ℕ) → below k ks ≤ length ks
+below-few : (k : ℕ) (ks : List ℕ) → below k ks ≤ length ks
 unfolding below
 below-few k [] = omega arith
 below-few k (n ∷ ks) = omega (arith, one-few (ltb n k), below-few k ks)

@@ -9,8 +9,8 @@ use Prim.Native.Nat.{ℕ, _≤_, _<_}
 use native.Mathlib.Omega.{arith}
 use mathlib.Core.Path.{_≡_, refl, sym, ap, _∙_}
 use mathlib.Core.List.{List}
-use mathlib.Core.Bool.{Bool, true, false, cond, _&&_}
-use lib.Dec.{ltb, leb}
+use mathlib.Core.Bool.{Bool, true, false}
+use lib.Dec.{ltb}
 use lib.IntN.{ℤ, pos, negsuc}
 use lib.ListN.{length, take, drop}
 use lib.Seq.{sets, take-all, length-sets}
@@ -18,7 +18,7 @@ use mir.Syntax.{w32}
 use mir.Val.{toZ, ofZ, SFits}
 use mir.ValLaws.{toZ-ofZ}
 use borrow.Author.Tests.{ltb-true, ltb-false, lt-ltb, le-ltb, le-leb, lt-leb}
-use Rattle.laws.proofs.Never.{never, by-test, cond-elim}
+use Rattle.laws.proofs.Never.{never, by-test}
 use Rattle.opus_defines.specs.Numbers.{refusalNumber, countOf}
 use Rattle.opus_defines.specs.Outcome.{refusal, written, Outcome, leaves, refuses, writes}
 use Rattle.opus_defines.specs.declared.Refusal.{Refusal}
@@ -92,10 +92,10 @@ module _ (sd pad : Bool) (six : ℕ) (frames : List (List ℕ)) (dst : List ℕ)
     frames-none h = rw (le-ltb b e h)
 
     module _ (some : b < e) where
-      pub frames-past : length frames < e → leaves dst (outFrames sd pad six frames (pos b) (pos e) (length dst)) ≡ refuses BadArg dst
+      frames-past : length frames < e → leaves dst (outFrames sd pad six frames (pos b) (pos e) (length dst)) ≡ refuses BadArg dst
       frames-past h = rw (lt-ltb b e some, lt-leb e (length frames) h)
 
-      pub frames-within : e ≤ length frames
+      frames-within : e ≤ length frames
           → leaves dst (outFrames sd pad six frames (pos b) (pos e) (length dst)) ≡ leaves dst (output sd pad six (range b e frames) (length dst))
       frames-within h = rw (lt-ltb b e some, le-leb e (length frames) h)
 

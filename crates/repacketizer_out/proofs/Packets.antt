@@ -51,7 +51,7 @@ chain-bytes : {p pad : ℕ} {chain : List ℕ} → Padding p chain pad → Bytes
 chain-bytes unpadded = bytes-nil
 chain-bytes (padded more last h) = bytes-append (replicate more 255) (last ∷ []) (same-bytes more 255 (omega arith)) (bytes-cons (omega arith) bytes-nil)
 
-pub layout-bytes : {sd : Bool} {six : ℕ} {head ns : List ℕ} {pad : ℕ} → Layout sd six head ns pad → six < 64 → longest ns ≤ mostBytes
+layout-bytes : {sd : Bool} {six : ℕ} {head ns : List ℕ} {pad : ℕ} → Layout sd six head ns pad → six < 64 → longest ns ≤ mostBytes
     → Bytes head
 layout-bytes {sd} (code0 n) k h = bytes-cons (omega arith) (own-bytes sd n (omega arith))
 layout-bytes {sd} (code1 n) k h = bytes-cons (omega arith) (own-bytes sd n (omega arith))

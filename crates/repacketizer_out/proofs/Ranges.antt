@@ -74,7 +74,7 @@ drop-cut zero ns s = refl
 drop-cut (suc n) [] s = refl
 drop-cut (suc n) (m ∷ ns) s = rw (drop-cut n ns (drop m s), drop-drop (total (take n ns)) m s)
 
-pub range-cut : (b e : ℕ) (ns s : List ℕ) → range b e (cut ns s) ≡ cut (range b e ns) (drop (total (take b ns)) s)
+range-cut : (b e : ℕ) (ns s : List ℕ) → range b e (cut ns s) ≡ cut (range b e ns) (drop (total (take b ns)) s)
 range-cut b e ns s = rw (drop-cut b ns s, take-cut (e - b) (drop b ns) (drop (total (take b ns)) s))
 
 pub length-cut : (ns s : List ℕ) → length (cut ns s) ≡ length ns

@@ -3,9 +3,9 @@
 --     few-records       a capture has fewer records than bytes
 --     seen-few          no more are found than there are
 -- Assumes nothing.
-use Prim.Native.Nat.{ℕ, _+_, _<_, _≤_}
+use Prim.Native.Nat.{ℕ, _≤_}
 use native.Mathlib.Omega.{arith}
-use mathlib.Core.Path.{_≡_, sym, ap, _∙_}
+use mathlib.Core.Path.{_≡_, ap}
 use mathlib.Core.List.{List, [], _∷_}
 use mathlib.Core.Bool.{Bool, true}
 use lib.Dec.{ltb}
@@ -27,7 +27,7 @@ few-in-file : (es : List Entry) → length es ≤ length (fileOf es)
 few-in-file [] = omega arith
 few-in-file (e ∷ es) = omega (arith, ap length (file-one e es), length-append (written e) (fileOf es), written-length e, few-in-file es)
 
-pub few-records : (s : List ℕ) → length (recordsOf s) ≤ length s
+few-records : (s : List ℕ) → length (recordsOf s) ≤ length s
 few-records s = omega (arith, all-counted s, few-in-file (recordsOf s))
 
 pub seen-few : (s file : List ℕ) (all : Bool) (records bytes : ℕ) → Begins (take records (recordsOf s)) file bytes

@@ -25,7 +25,7 @@ tells-not f = record { so = λ e. never (cc); only = λ p. absurd (f p) }
 pub tells-yes : {P : Type 0} → P → Tells true P
 tells-yes p = record { so = λ e. p; only = λ q. refl }
 
-pub tells-zero : {P : Type 0} (n : ℕ) → (n ≡ 0 → P) → (P → n ≡ 0) → Tells (eqb n 0) P
+tells-zero : {P : Type 0} (n : ℕ) → (n ≡ 0 → P) → (P → n ≡ 0) → Tells (eqb n 0) P
 tells-zero n f g = record { so = λ e. f (eqb-true n 0 e); only = λ p. eq-eqb n 0 (g p) }
 
 module _ (a b : List ℕ) where

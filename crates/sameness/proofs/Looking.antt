@@ -37,10 +37,10 @@ abbrev pub left : List ℕ → ℕ → List Entry
 left s at = entries s (recordsIn (readings s at))
 
 module _ (s : List ℕ) (at : ℕ) where
-  pub left-end : nextRecord s at .length ≡ 0 → left s at ≡ []
+  left-end : nextRecord s at .length ≡ 0 → left s at ≡ []
   left-end z = rw (readings-end s at z, records-none (nextRecord s at) [] z, records-end)
 
-  pub left-on : at ≤ length s → (nextRecord s at .length ≡ 0 → ⊥) → let a = nextRecord s at in left s at ≡ entryOf s a ∷ left s (behind a)
+  left-on : at ≤ length s → (nextRecord s at .length ≡ 0 → ⊥) → let a = nextRecord s at in left s at ≡ entryOf s a ∷ left s (behind a)
   left-on h f = let a = nextRecord s at in rw (readings-on s at h f, records-one a (readings s (behind a)) f)
 
 -- its packet

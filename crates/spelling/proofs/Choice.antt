@@ -67,7 +67,7 @@ module _ (p : List ℕ) (room : ℕ) where
     unfolding spelling
     fits short h g = rw (le-ltb 65535 (length p) short, u, lt-ltb (length q) (length p) h, le-leb (length q) room g)
 
-    pub fits-only : (n : ℕ) → spelling p room ≡ Compact n → (length q ≡ n) × (n < length p) × (n ≤ room)
+    fits-only : (n : ℕ) → spelling p room ≡ Compact n → (length q ≡ n) × (n < length p) × (n ≤ room)
     fits-only n e =
         by-test (ltb 65535 (length p)) (λ t. never (let o = long-original (ltb-true 65535 (length p) t) in cc))
         (λ t. by-test (ltb (length q) (length p))

@@ -98,7 +98,7 @@ pub held-of : (k : ℕ) (p : List ℕ) (xs : List Stream) → readStreams k p �
 held-of k p xs e = rw (e, repack-compact k p xs e)
 
 -- each by itself
-pub apart-held : (xs : List Stream) → AllValid xs → heldBy (map (packed false) xs) ≡ holds xs
+apart-held : (xs : List Stream) → AllValid xs → heldBy (map (packed false) xs) ≡ holds xs
 apart-held [] v = refl
 apart-held (x ∷ xs) v =
     let w = v .0 .spelled false in
@@ -135,7 +135,7 @@ plain-shorter x =
       compact-bytes true (x .six) ns m refl,
     )
 
-pub plain-within : (k : ℕ) (xs : List Stream) → length xs ≡ suc k → length (joined (map (packed false) xs)) ≤ length (compactStreams k xs)
+plain-within : (k : ℕ) (xs : List Stream) → length xs ≡ suc k → length (joined (map (packed false) xs)) ≤ length (compactStreams k xs)
 plain-within k [] c = absurd (omega (arith, c))
 plain-within zero (x ∷ []) c = rw (append-nil (packed false x)) (omega arith)
 plain-within zero (x ∷ y ∷ ys) c = absurd (omega (arith, c))
@@ -162,7 +162,7 @@ pub record Wrote (room : ℕ) (f : List Stream → List ℕ) (h : Held) (q : Lis
   pub bytes : q ≡ f all
   pub fits : length q ≤ room
 
-pub held-was : (room : ℕ) (f : List Stream → List ℕ) (h : Held) (q : List ℕ) → byHeld room f h ≡ written q → Wrote room f h q
+held-was : (room : ℕ) (f : List Stream → List ℕ) (h : Held) (q : List ℕ) → byHeld room f h ≡ written q → Wrote room f h q
 held-was room f (stuck e) q w = never (cc)
 held-was room f (holds xs) q w =
     by-test (equallyLong xs)
@@ -217,7 +217,7 @@ module _ (q : List ℕ) (n : ℕ) (few : n ≤ 255) (short : length q ≤ 65535)
   unfolding Join.take
   take-too-wide room wide = rw (le-ltb 65535 (length q) short, lt-ltb 65535 room wide)
 
-  pub take-was : (room : ℕ) (c : List ℕ) → Join.take q (pos n) (pos k) room ≡ written c → c ≡ packetOf k xs
+  take-was : (room : ℕ) (c : List ℕ) → Join.take q (pos n) (pos k) room ≡ written c → c ≡ packetOf k xs
   take-was room c w =
       by-test (ltb 65535 room)
       (λ t. refused-not c w (take-too-wide room (ltb-true 65535 room t)))

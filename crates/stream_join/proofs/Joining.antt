@@ -32,7 +32,7 @@ use Rattle.stream_join.specs.declared.Survey.the-variants.{Needs, Unequa
 use Rattle.stream_join.proofs.Looked.{cut-count}
 
 -- ---- what is counted
-pub tally-bytes : (n i : ℕ) (t : Tally) (xs : List Stream) → tallied n i t xs .bytes ≡ t .bytes + length (packedFrom n i xs)
+tally-bytes : (n i : ℕ) (t : Tally) (xs : List Stream) → tallied n i t xs .bytes ≡ t .bytes + length (packedFrom n i xs)
 tally-bytes n i t [] = omega arith
 tally-bytes n i t (x ∷ xs) =
     let p = packed (ltb (i + 1) n) x in
@@ -52,19 +52,19 @@ tally-later n i t (x ∷ xs) h =
     let next = tally-later n (i + 1) (andOne t i (lasting x) (length (packed (ltb (i + 1) n) x))) xs (λ e. omega arith) in
     next ∙ rw (ne-eqb i 0 h) (and-assoc (t .equal) (eqb (lasting x) (t .time)) (allLast (t .time) xs))
 
-pub tally-equal : (n : ℕ) (xs : List Stream) → tallied n 0 nothing xs .equal ≡ equallyLong xs
+tally-equal : (n : ℕ) (xs : List Stream) → tallied n 0 nothing xs .equal ≡ equallyLong xs
 tally-equal n [] = refl
 tally-equal n (x ∷ xs) = tally-later n 1 (andOne nothing 0 (lasting x) (length (packed (ltb 1 n) x))) xs (λ e. omega arith)
 
 -- ---- their compact packets
-pub packed-as : (k i n : ℕ) (xs : List Stream) → length xs ≡ suc k → i + suc k ≡ n → packedFrom n i xs ≡ compactStreams k xs
+packed-as : (k i n : ℕ) (xs : List Stream) → length xs ≡ suc k → i + suc k ≡ n → packedFrom n i xs ≡ compactStreams k xs
 packed-as k i n [] c e = absurd (omega (arith, c))
 packed-as zero i n (x ∷ []) c e = rw (le-ltb (i + 1) n (omega arith)) (append-nil (packed false x))
 packed-as zero i n (x ∷ y ∷ ys) c e = absurd (omega (arith, c))
 packed-as (suc k) i n (x ∷ xs) c e =
     rw (lt-ltb (i + 1) n (omega arith), packed-as k (i + 1) n xs (omega (arith, c)) (omega arith))
 
-pub packed-all : (n : ℕ) (xs : List Stream) → length xs ≡ n → packedFrom n 0 xs ≡ joinedStreams xs
+packed-all : (n : ℕ) (xs : List Stream) → length xs ≡ n → packedFrom n 0 xs ≡ joinedStreams xs
 packed-all n [] c = refl
 packed-all n (x ∷ xs) c =
     let k : length (x ∷ xs) - 1 ≡ length xs = omega arith in
@@ -86,7 +86,7 @@ held-count (p ∷ ps) xs e = go (λ ys. held-count ps ys) (heldBy ps) refl (read
         omega (arith, n, is)
 
 -- ---- the first pass
-pub told-holds : (n : ℕ) (xs : List Stream) → surveyed n (holds xs) ≡ cond (equallyLong xs) (Needs (length (packedFrom n 0 xs))) Unequal
+told-holds : (n : ℕ) (xs : List Stream) → surveyed n (holds xs) ≡ cond (equallyLong xs) (Needs (length (packedFrom n 0 xs))) Unequal
 told-holds n xs =
     let b : tallied n 0 nothing xs .bytes ≡ length (packedFrom n 0 xs) = omega (arith, tally-bytes n 0 nothing xs) in
     rw (tally-equal n xs, b)
@@ -178,7 +178,7 @@ module _ (s ns : List ℕ) (room m : ℕ) (t : Told (length ns) (heldBy (cut ns 
   abbrev held : Held
   held = heldBy (cut ns s)
 
-  pub joined-is : packedFrom (length ns) 0 (heldStreams held) ≡ joinedStreams (heldStreams held)
+  joined-is : packedFrom (length ns) 0 (heldStreams held) ≡ joinedStreams (heldStreams held)
   joined-is = packed-all (length ns) (heldStreams held) (held-count (cut ns s) (heldStreams held) (t .streams) ∙ cut-count ns s)
 
   by-held : byHeld room joinedStreams held ≡ intoRoom (packedFrom (length ns) 0 (heldStreams held)) room

@@ -110,7 +110,7 @@ first-unreadable (suc k) (n ∷ ns) s t h f rule place r =
 lasts-as : (p : List ℕ) (toc : ℕ) (ns : List ℕ) (first : ℕ) → lasting (streamAt p toc ns first) ≡ time toc (length ns)
 lasts-as p toc ns first = rw (cut-count ns (drop first p)) (sym (time-six toc (length ns)))
 
-pub readable-held : (ps : List (List ℕ)) → ((i : ℕ) → i < length ps → isAccepted (read false (getD ps i [])) ≡ true)
+readable-held : (ps : List (List ℕ)) → ((i : ℕ) → i < length ps → isAccepted (read false (getD ps i [])) ≡ true)
     → (xs : List Stream) × (heldBy ps ≡ holds xs)
 readable-held [] f = ([], refl)
 readable-held (p ∷ ps) f = go (readable-held ps (λ i h. f (suc i) (omega (arith, h)))) (read false p) (f 0 (omega arith))
@@ -120,7 +120,7 @@ readable-held (p ∷ ps) f = go (readable-held ps (λ i h. f (suc i) (omega (ari
     go h (refused rule place) a = never (cc)
     go h (accepted toc ns first taken) a = (streamAt p toc ns first ∷ h .0, rw (h .1))
 
-pub nth-time : (ps : List (List ℕ)) (xs : List Stream) → heldBy ps ≡ holds xs → (i : ℕ) → i < length ps
+nth-time : (ps : List (List ℕ)) (xs : List Stream) → heldBy ps ≡ holds xs → (i : ℕ) → i < length ps
     → getD (map lasting xs) i 0 ≡ lasts (read false (getD ps i []))
 nth-time [] xs e i h = absurd (omega (arith, h))
 nth-time (p ∷ ps) xs e i h = go i (λ j ys. λ f l. nth-time ps ys f j l) (heldBy ps) refl (read false p) refl e h
@@ -149,7 +149,7 @@ last-all t (x ∷ xs) e zero h = eqb-true (lasting x) t (and-both (eqb (lasting 
 last-all t (x ∷ xs) e (suc i) h = last-all t xs (and-both (eqb (lasting x) t) (allLast t xs) e .1) i (omega (arith, h))
 
 -- all last as long as the first
-pub equal-all : (xs : List Stream) → equallyLong xs ≡ true → (i j : ℕ) → i < length xs → j < length xs
+equal-all : (xs : List Stream) → equallyLong xs ≡ true → (i j : ℕ) → i < length xs → j < length xs
     → getD (map lasting xs) i 0 ≡ getD (map lasting xs) j 0
 equal-all [] e i j h k = absurd (omega (arith, h))
 equal-all (x ∷ xs) e i j h k = as-first i h ∙ sym (as-first j k)
@@ -168,7 +168,7 @@ not-all t (x ∷ xs) e =
     (λ b. (0, omega arith, eqb-false (lasting x) t b))
 
 -- one lasts otherwise than the first
-pub unequal-one : (xs : List Stream) → equallyLong xs ≡ false
+unequal-one : (xs : List Stream) → equallyLong xs ≡ false
     → (i : ℕ) × (i < length xs) × (getD (map lasting xs) i 0 ≡ getD (map lasting xs) 0 0 → ⊥)
 unequal-one [] e = never (cc)
 unequal-one (x ∷ xs) e =

@@ -66,7 +66,7 @@ module _ (out sd : Bool) (p : List ℕ) where
           rw same (refused-within sd p rule place q)
       go (accepted toc ns first taken) q h = never (cc)
 
-  pub look-taken : (n lasts bytes : ℕ) → Bytes p → Reads n lasts bytes ≡ lookBy out p (read sd p) → n ≤ length p
+  look-taken : (n lasts bytes : ℕ) → Bytes p → Reads n lasts bytes ≡ lookBy out p (read sd p) → n ≤ length p
   look-taken n lasts bytes b h = go (read sd p) refl h
     where
       go : (x : Reading) → read sd p ≡ x → Reads n lasts bytes ≡ lookBy out p x → n ≤ length p
@@ -77,14 +77,14 @@ module _ (out sd : Bool) (p : List ℕ) where
 
 -- ---- one more in front
 module _ (n at i : ℕ) (t : Tally) where
-  pub ahead-surveyed : (k : ℕ) (x : Stream) (h : Held)
+  ahead-surveyed : (k : ℕ) (x : Stream) (h : Held)
       → surveyedFrom n at i t (ahead k x h) ≡ surveyedFrom n (at + k) (i + 1) (andOne t i (lasting x) (length (packed (ltb (i + 1) n) x))) h
   ahead-surveyed k x (stuck e) = ap Stuck (shifted-more at k e)
   ahead-surveyed k x (holds xs) = refl
 
   -- a packet that is told, or not
   module _ (p : List ℕ) (h : Held) where
-    pub packet-told : (r : Reading) (taken lasts bytes : ℕ) → Reads taken lasts bytes ≡ lookBy (ltb (i + 1) n) p r
+    packet-told : (r : Reading) (taken lasts bytes : ℕ) → Reads taken lasts bytes ≡ lookBy (ltb (i + 1) n) p r
         → surveyedFrom n at i t (thenPackets h p r) ≡ surveyedFrom n (at + length p) (i + 1) (andOne t i lasts bytes) h
     packet-told (refused rule place) taken lasts bytes e = never (cc)
     packet-told (accepted toc ns first n′) taken lasts bytes e =
@@ -93,13 +93,13 @@ module _ (n at i : ℕ) (t : Tally) where
         let b : bytes ≡ length (packed (ltb (i + 1) n) x) = cc in
         rw (l, b) (ahead-surveyed (length p) x h)
 
-    pub packet-stuck : (r : Reading) (e : Refusal) → Unread e ≡ lookBy (ltb (i + 1) n) p r
+    packet-stuck : (r : Reading) (e : Refusal) → Unread e ≡ lookBy (ltb (i + 1) n) p r
         → surveyedFrom n at i t (thenPackets h p r) ≡ Stuck (shifted at e)
     packet-stuck (refused rule place) e q = let same : e ≡ ruleRefusal rule place = cc in rw same
     packet-stuck (accepted toc ns first n′) e q = never (cc)
 
   module _ (p : List ℕ) (next : List ℕ → Held) where
-    pub stream-told : (r : Reading) (taken lasts bytes : ℕ) → Reads taken lasts bytes ≡ lookBy (ltb (i + 1) n) p r
+    stream-told : (r : Reading) (taken lasts bytes : ℕ) → Reads taken lasts bytes ≡ lookBy (ltb (i + 1) n) p r
         → surveyedFrom n at i t (thenHeld next p r) ≡ surveyedFrom n (at + taken) (i + 1) (andOne t i lasts bytes) (next (drop taken p))
     stream-told (refused rule place) taken lasts bytes e = never (cc)
     stream-told (accepted toc ns first n′) taken lasts bytes e =
@@ -109,7 +109,7 @@ module _ (n at i : ℕ) (t : Tally) where
         let b : bytes ≡ length (packed (ltb (i + 1) n) x) = cc in
         rw (k, l, b) (ahead-surveyed n′ x (next (drop n′ p)))
 
-    pub stream-stuck : (r : Reading) (e : Refusal) → Unread e ≡ lookBy (ltb (i + 1) n) p r
+    stream-stuck : (r : Reading) (e : Refusal) → Unread e ≡ lookBy (ltb (i + 1) n) p r
         → surveyedFrom n at i t (thenHeld next p r) ≡ Stuck (shifted at e)
     stream-stuck (refused rule place) e q = let same : e ≡ ruleRefusal rule place = cc in rw same
     stream-stuck (accepted toc ns first n′) e q = never (cc)

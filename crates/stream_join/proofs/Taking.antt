@@ -90,7 +90,7 @@ then-same : (f g : List ℕ → Held) (s : List ℕ) → ((t : List ℕ) → f t
 then-same f g s e (refused rule place) = refl
 then-same f g s e (accepted toc ns first taken) = ap (ahead taken (streamAt s toc ns first)) (e (drop taken s))
 
-pub held-in : (k : ℕ) (s : List ℕ) → heldIn k s ≡ heldStreamsIn (suc k) s
+held-in : (k : ℕ) (s : List ℕ) → heldIn k s ≡ heldStreamsIn (suc k) s
 held-in zero s =
     held-reading false s (λ t. repacked []) (λ t. streams []) (λ t. tt) (read false s)
 held-in (suc k) s =
@@ -115,7 +115,7 @@ pub record Place (m k : ℕ) (s : List ℕ) (xs : List Stream) : Type 0 where
   pub puts : compactBy false (drop at s) (read (isSome m) (drop at s)) ≡ packetOf k xs
 
 -- m streams stand behind it
-pub place-in : (n k m : ℕ) (s : List ℕ) (xs : List Stream) → k + suc m ≡ n → heldStreamsIn n s ≡ holds xs → Place m k s xs
+place-in : (n k m : ℕ) (s : List ℕ) (xs : List Stream) → k + suc m ≡ n → heldStreamsIn n s ≡ holds xs → Place m k s xs
 place-in zero k m s xs c e = absurd (omega arith)
 place-in (suc n) zero m s xs c e =
     let same : n ≡ m = omega arith in

@@ -95,7 +95,7 @@ module _ {M : Type 1} {𝓤 : URA M} {H : Heap 𝓤} {A : Atoms 𝓤} (W : Given
       (fields-two q τs (a + size ρ) j k (le-of-suc-le-suc l) σ τ c d at at′ b o vs)
       (λ x y. comm∗ 𝓤 (fieldsAt 𝓤 H q τs (a + size ρ) b o (setV (setV vs j x) k y)) P))
 
-  pub two-out : (q : Share) (ν : Sym) (τs : Tys) (j k : ℕ) → j < k → (σ τ : Ty) (c d : ℕ)
+  two-out : (q : Share) (ν : Sym) (τs : Tys) (j k : ℕ) → j < k → (σ τ : Ty) (c d : ℕ)
       → fieldAt zero τs j ≡ just (σ, c) → fieldAt zero τs k ≡ just (τ, d) → (b o : ℕ) (us : Vals)
       → ent 𝓤 (H .at q (tyStruct ν τs) b o (vstruct us))
       (Out (getV us j) (getV us k) (H .at q σ b (o + c)) (H .at q τ b (o + d)) (λ x y. H .at q (tyStruct ν τs) b o (vstruct (setV (setV us j x) k y))))

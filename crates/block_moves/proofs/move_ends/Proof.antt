@@ -3,7 +3,6 @@
 use Prim.Native.Nat.{_+_, _-_}
 use native.Mathlib.Omega.{arith}
 use lib.ListN.{replicate}
-use borrow.Author.Needs.{needs}
 use Rattle.blocks.proofs.Pieces.{held, copied-more}
 use Rattle.block_moves.proofs.move_ends.Statement.{statement}
 use Rattle.block_moves.proofs.move_ends.Tie as tie

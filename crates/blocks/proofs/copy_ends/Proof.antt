@@ -2,7 +2,6 @@
 -- Assumes nothing.
 use Prim.Native.Nat.{_-_}
 use native.Mathlib.Omega.{arith}
-use borrow.Author.Needs.{needs}
 use Rattle.blocks.proofs.Pieces.{copied-more}
 use Rattle.blocks.proofs.copy_ends.Statement.{statement}
 use Rattle.blocks.proofs.copy_ends.Tie as tie

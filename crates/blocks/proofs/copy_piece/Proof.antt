@@ -2,7 +2,6 @@
 -- Assumes nothing.
 use native.Mathlib.Omega.{arith}
 use lib.ListN.{replicate}
-use borrow.Author.Needs.{needs}
 use Rattle.blocks.proofs.Pieces.{held}
 use Rattle.blocks.proofs.copy_piece.Statement.{statement}
 use Rattle.blocks.proofs.copy_piece.Tie as tie

@@ -6,7 +6,6 @@ use mathlib.Core.Path.{_≡_}
 use mathlib.Core.Logic.{⊎-elim}
 use lib.ListN.{length}
 use borrow.Author.Needs.{needs}
-use Rattle.laws.specs.Bytes.{Bytes}
 use Rattle.capture.specs.Finding.{nextRecord}
 use Rattle.capture_survey.proofs.Walking.{Walking, walking-start, at-most, seen, is-seen}
 use Rattle.capture_survey.proofs.Walking.{Finds, finds-as, finds-here, finds-last, finds-next, place-within, record-ends}

@@ -1,14 +1,12 @@
 -- `compact::compact` is safe, and ends: each part has a byte, and no more than 2 ^ 60 are read.
 -- Assumes nothing.
-use Prim.Native.Nat.{_-_, _+_, _≤_, _^_}
+use Prim.Native.Nat.{_-_, _≤_, _^_}
 use native.Mathlib.Omega.{arith}
-use mathlib.Core.Path.{_≡_, sym, ap, _∙_}
-use lib.ListN.{length, take, length-take}
+use mathlib.Core.Path.{_≡_, sym}
+use lib.ListN.{length, take}
 use lib.Seq.{length-take-le}
 use borrow.Author.Needs.{needs}
-use Rattle.compaction.specs.declared.Share.{Share}
 use Rattle.capture_parts.proofs.Told.{Reads, reads-start, part-short, part-some, reads-on}
-use Rattle.compact.specs.Stream.{shareOf}
 use Rattle.compact.proofs.Sharing.{Within, within, Shares, shares-none, shares-on}
 use Rattle.compact.proofs.compact.Statement.{statement}
 use Rattle.compact.proofs.compact.Tie as tie

@@ -5,7 +5,7 @@ use mir.Syntax.{w32}
 use mir.Val.{toZ, ofZ}
 use borrow.Author.Needs.{needs}
 use Rattle.show.specs.Text.{decimal, integer, refusedLabel}
-use Rattle.show.proofs.Laid.{Laid, laid-ends, laid-room, laid-then, front-ends}
+use Rattle.show.proofs.Laid.{Laid, laid-room, laid-then, front-ends}
 use Rattle.listing_text.specs.Listing.{line}
 use Rattle.listing_text.proofs.Texts.{numbered, ruled, report-laid, word-room, number-room, rule-room, place-room}
 use Rattle.listing_text.proofs.put_report.Statement.{statement}

@@ -1,6 +1,6 @@
 -- `multistream::opus_multistream_packet_pad` meets its contract: it is the report of what `pad_answer` answers.
 -- Assumes nothing.
-use mathlib.Core.Path.{_≡_, _∙_}
+use mathlib.Core.Path.{_∙_}
 use borrow.Author.Needs.{needs}
 use Rattle.opus_defines.proofs.Outcomes.{meets}
 use Rattle.multistream.proofs.Calls.{pad-passed}

@@ -1,6 +1,6 @@
 -- `multistream::pad_streams` meets its contract: by what reading the first streams answers.
 -- Assumes nothing.
-use Prim.Native.Nat.{_-_, _≤_}
+use Prim.Native.Nat.{_-_}
 use native.Mathlib.Omega.{arith}
 use mathlib.Core.Path.{refl, sym, ap, _∙_}
 use lib.ListN.{take, length-take}

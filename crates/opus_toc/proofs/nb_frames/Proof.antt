@@ -1,6 +1,5 @@
 -- `opus_toc::nb_frames` meets its contract: the tests on the way to each `return` say the code.
 -- Assumes nothing.
-use native.Mathlib.Omega.{arith}
 use borrow.Author.Needs.{needs}
 use Rattle.opus_toc.proofs.Answers.{frames-empty, frames-one, frames-two, frames-cut, frames-count}
 use Rattle.opus_toc.proofs.nb_frames.Statement.{statement}

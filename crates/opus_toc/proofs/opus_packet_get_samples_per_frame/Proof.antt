@@ -1,13 +1,11 @@
 -- `opus_toc::opus_packet_get_samples_per_frame` meets its contract, by the sign of the rate.
 -- Assumes nothing.
-use mathlib.Core.Path.{_≡_, ap, sym, _∙_}
+use mathlib.Core.Path.{_≡_, ap, _∙_}
 use borrow.Author.Needs.{needs}
-use lib.IntN.{ℤ}
 use mir.Syntax.{w32}
 use mir.Val.{toZ, ofZ}
 use Rattle.opus_defines.specs.Numbers.{numberOf}
 use Rattle.opus_defines.proofs.Counts.{counted}
-use Rattle.opus_toc.specs.Answers.{samplesPerFrame}
 use Rattle.opus_toc.proofs.Answers.{rate-negative, rate-natural}
 use Rattle.opus_toc.proofs.opus_packet_get_samples_per_frame.Statement.{statement}
 use Rattle.opus_toc.proofs.opus_packet_get_samples_per_frame.Tie as tie

@@ -1,9 +1,9 @@
 -- `packet_numbers::look` meets its contract. The invariant: what was found of the lengths and numbers passed.
 -- Assumes nothing.
-use Prim.Native.Nat.{_-_, _<_}
+use Prim.Native.Nat.{_-_}
 use native.Mathlib.Omega.{arith}
 use borrow.Author.Needs.{needs}
-use lib.ListN.{length, getD}
+use lib.ListN.{length}
 use Rattle.packet_numbers.proofs.Numbering.{Looked, looked-first, looked-more, looked-all}
 use Rattle.packet_numbers.proofs.look.Statement.{statement}
 use Rattle.packet_numbers.proofs.look.Tie as tie

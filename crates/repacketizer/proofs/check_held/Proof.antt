@@ -1,7 +1,6 @@
 -- `repacketizer::check_held` meets its contract: by what one pass has found.
 -- Assumes nothing.
-use native.Mathlib.Omega.{arith}
-use mathlib.Core.Path.{sym, _∙_}
+use mathlib.Core.Path.{_∙_}
 use borrow.Author.Needs.{needs}
 use Rattle.repacketizer.proofs.Checks.{held-wrong, held-right}
 use Rattle.repacketizer.proofs.check_held.Statement.{statement}

@@ -1,7 +1,6 @@
 -- `repacketizer::said_frames` meets its contract: by what the first bytes say.
 -- Assumes nothing.
-use Prim.Native.Nat.{_<_}
-use mathlib.Core.Path.{_≡_, sym, ap, _∙_}
+use mathlib.Core.Path.{sym, ap, _∙_}
 use native.Mathlib.Omega.{arith}
 use borrow.Author.Needs.{needs}
 use Rattle.repacketizer.specs.Adding.{saidFrames}

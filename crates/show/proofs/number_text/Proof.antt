@@ -1,6 +1,5 @@
 -- `show::number_text` meets its contract: there is room for a sign and ten digits.
 -- Assumes nothing.
-use native.Mathlib.Omega.{arith}
 use borrow.Author.Needs.{needs}
 use Rattle.show.proofs.Signed.{text-room, text-put}
 use Rattle.show.proofs.number_text.Statement.{statement}

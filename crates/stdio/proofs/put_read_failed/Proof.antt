@@ -3,7 +3,7 @@
 use native.Mathlib.Omega.{arith}
 use borrow.Author.Needs.{needs}
 use Rattle.show.specs.Text.{decimal}
-use Rattle.show.proofs.Laid.{Laid, first-room, second-room, third-room, three-laid}
+use Rattle.show.proofs.Laid.{Laid, second-room, third-room, three-laid}
 use Rattle.stdio.specs.Failures.{readLabel, bytesLabel}
 use Rattle.stdio.proofs.Line.{line-parts, line-ends}
 use Rattle.stdio.proofs.put_read_failed.Statement.{statement}

@@ -1,6 +1,5 @@
 -- `stdio::read_more` meets its contract, and ends: the tries fall.
 -- Assumes nothing.
-use native.Mathlib.Omega.{arith}
 use mathlib.Core.Path.{_≡_, _∙_}
 use borrow.Author.Needs.{needs}
 use lib.ListN.{length}

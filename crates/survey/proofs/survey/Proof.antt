@@ -1,8 +1,8 @@
 -- `survey::survey` is safe, and ends: each part has a byte, and no more than 2 ^ 60 are read.
 -- Assumes nothing.
-use Prim.Native.Nat.{_*_, _-_, _+_, _≤_, _^_}
+use Prim.Native.Nat.{_*_, _-_, _≤_, _^_}
 use native.Mathlib.Omega.{arith}
-use mathlib.Core.Path.{_≡_, refl, sym, ap, _∙_}
+use mathlib.Core.Path.{sym, ap}
 use lib.ListN.{length, take, length-take}
 use lib.Seq.{length-take-le}
 use borrow.Author.Needs.{needs}

@@ -1,7 +1,7 @@
 -- `aveluafi::word::refusal_word` meets its contract: a refusal's number is -21 or more and below 0, so that its bits, the rule and the place stand apart.
 -- Assumes nothing.
-use mathlib.Core.Path.{_≡_, sym, ap, _∙_}
-use Prim.Native.Nat.{ℕ, suc, _<_}
+use mathlib.Core.Path.{_≡_, ap, _∙_}
+use Prim.Native.Nat.{ℕ, _<_}
 use native.Mathlib.Omega.{arith}
 use lib.IntN.{negsuc}
 use borrow.Author.Needs.{needs}

@@ -1,6 +1,5 @@
 -- `packet_numbers::words::eight_numbers` meets its contract.
 -- Assumes nothing.
-use mathlib.Core.Path.{refl}
 use borrow.Author.Needs.{needs}
 use Rattle.packet_numbers.proofs.Lanes.{eight-told}
 use Rattle.packet_numbers.proofs.words.eight_numbers.Statement.{statement}

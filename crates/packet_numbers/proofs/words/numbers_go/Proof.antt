@@ -1,10 +1,10 @@
 -- `packet_numbers::words::numbers_go` meets its contract. The invariant: the numbers passed go by 0 or 1.
 -- Assumes nothing.
-use Prim.Native.Nat.{_+_, _-_, _≤_, _<_}
+use Prim.Native.Nat.{_+_, _-_, _<_}
 use native.Mathlib.Omega.{arith}
 use mathlib.Core.Path.{_≡_}
 use mathlib.Core.Bool.{true}
-use lib.ListN.{length, take}
+use lib.ListN.{take}
 use borrow.Author.Needs.{needs}
 use Rattle.laws.proofs.Never.{never}
 use Rattle.packet_numbers.specs.Numbers.{numbered}

@@ -1,7 +1,5 @@
 -- `packet_numbers::words::tell` meets its contract: what the words accept is sound, and all else is looked at frame by frame.
 -- Assumes nothing.
-use native.Mathlib.Omega.{arith}
-use mathlib.Core.Path.{refl}
 use lib.ListN.{take}
 use borrow.Author.Needs.{needs}
 use Rattle.packet_numbers.proofs.Lanes.{told-quick, told-wrong, told-well}
