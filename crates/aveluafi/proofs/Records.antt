@@ -116,7 +116,8 @@ module _ (sd : Bool) (p : List ℕ) where
     broken-record rule place q r = rw (← parse-read sd p h, q, r)
 
 -- one of code 3 with frames of one length
-pub same-record : (p : List ℕ) → length p ≤ 65535 → (n each first : ℕ) → EqualRead p n each first → {r : Report} {l : List ℕ} → r ≡ plain (pos n)
+pub same-record : (p : List ℕ) → length p ≤ 65535 → (n each first : ℕ) → EqualRead p n each first → {r : Report} {l : List ℕ}
+    → r ≡ plain (pos n)
     → l ≡ padded48 (replicate n each)
     → record { report = r; lengths = l; toc = getD p 0 0; «payload_offset» = first; «packet_offset» = length p } ≡ packetRecord (parsed false p)
 same-record p h n each first s e q =

@@ -39,7 +39,8 @@ length-none s at z =
     none-of (eqb (getD l 0 0) 0x4B && (eqb (getD l 1 0) 0x9D && leb (5 + lengthIn l) (length l))) (lengthIn l) (simp getD-drop z)
 
 -- ---- one stands where the mark is whole and the packet ends within
-pub stands : (s : List ℕ) (at : ℕ) → getD s at 0 ≡ 0x4B → getD s (at + 1) 0 ≡ 0x9D → 5 + lengthAt s at ≤ length s - at → (lengthAt s at ≡ 0 → ⊥)
+pub stands : (s : List ℕ) (at : ℕ) → getD s at 0 ≡ 0x4B → getD s (at + 1) 0 ≡ 0x9D → 5 + lengthAt s at ≤ length s - at
+    → (lengthAt s at ≡ 0 → ⊥)
     → packetLength (drop at s) ≡ 0 → ⊥
 stands s at a b h f z = f (sym (length-whole s at a b h) ∙ z)
 
@@ -66,10 +67,12 @@ pub record Found (s : List ℕ) (start place n : ℕ) : Type 0 where
   pub first : place ≡ recordFrom s start .place
   pub long : n ≡ packetLength (drop place s)
 
-pub found-here : (s : List ℕ) (start k place n : ℕ) → k ≡ packetLength (drop start s) → (k ≡ 0 → ⊥) → place ≡ start → n ≡ k → Found s start place n
+pub found-here : (s : List ℕ) (start k place n : ℕ) → k ≡ packetLength (drop start s) → (k ≡ 0 → ⊥) → place ≡ start → n ≡ k
+    → Found s start place n
 found-here s start k place n is f p e = record { first = p ∙ place-here s start k is f; long = e ∙ is ∙ rw p }
 
-pub found-end : (s : List ℕ) (start k place n : ℕ) → k ≡ packetLength (drop start s) → start ≤ length s → length s ≤ start → place ≡ start → n ≡ k
+pub found-end : (s : List ℕ) (start k place n : ℕ) → k ≡ packetLength (drop start s) → start ≤ length s → length s ≤ start
+    → place ≡ start → n ≡ k
     → Found s start place n
 found-end s start k place n is inside h p e =
     let end : start ≡ length s = omega arith in

@@ -84,7 +84,8 @@ module _ (s : List ℕ) (n sum i : ℕ) (h : i < length s) where
     pub unused-passed : {fits′ : Bool} → fits′ ≡ fits → getD s i 0 ≡ 0 → fits && fitFrom s n sum i ≡ fits′ && fitFrom s n sum (i + 1)
     unused-passed e z = rw (e, from-unused, eq-eqb (getD s i 0) 0 z)
 
-    pub unused-refused : {fits′ : Bool} → fits′ ≡ false → (getD s i 0 ≡ 0 → ⊥) → fits && fitFrom s n sum i ≡ fits′ && fitFrom s n sum (i + 1)
+    pub unused-refused : {fits′ : Bool} → fits′ ≡ false → (getD s i 0 ≡ 0 → ⊥)
+        → fits && fitFrom s n sum i ≡ fits′ && fitFrom s n sum (i + 1)
     unused-refused e o = rw (e, from-unused, ne-eqb (getD s i 0) 0 o) (never-both fits)
 
 pub entries-start : (s : List ℕ) (n sum : ℕ) → entriesFit n sum s ≡ fitFrom s n sum 0

@@ -228,7 +228,8 @@ module _ (s : List ℕ) (k : ℕ) where
             there : place ≡ stopAt (length s) (readFields (k - i) (drop next s))
             there = rw (le-ltb (length s - next) last f) at e
 
-            found : (r : Fields) → readFields (k - i) (drop next s) ≡ r → Placed s next (k - i) r → SizesRead s (together (readFields k s)) (Cut place) l
+            found : (r : Fields) → readFields (k - i) (drop next s) ≡ r → Placed s next (k - i) r
+                → SizesRead s (together (readFields k s)) (Cut place) l
             found r w (nowhere t a) = broken-at t place (rw (← q, w)) (rw w at there) l
             found r w (here ns end c a b) =
                 let long : ltb (length (drop end s)) (total (z .done ++ ns)) ≡ true =

@@ -369,9 +369,11 @@ fn add_block(
     requires frames { ⌜ (1 ≤ length (now ns)) × (length (now ns) ≤ 48)
         × (longest (now ns) ≤ mostBytes) × (first + total (now ns) ≤ length (now «data»)) ⌝ }
     ensures answer { λ r. ⌜ addedOf r (now (len .exit)) (now (packet .exit))
-        ≡ addBlock (collectorOf h (now (len .entry)) (now (packet .entry))) toc (now (ns .entry)) (now («data» .entry)) first (now (store .entry)) .answer ⌝ }
+        ≡ addBlock (collectorOf h (now (len .entry)) (now (packet .entry))) toc (now (ns .entry)) (now («data» .entry)) first
+        (now (store .entry)) .answer ⌝ }
     ensures bytes { λ _. ⌜ now (store .exit)
-        ≡ addBlock (collectorOf h (now (len .entry)) (now (packet .entry))) toc (now (ns .entry)) (now («data» .entry)) first (now (store .entry)) .store ⌝ }
+        ≡ addBlock (collectorOf h (now (len .entry)) (now (packet .entry))) toc (now (ns .entry)) (now («data» .entry)) first
+        (now (store .entry)) .store ⌝ }
     ensures few { λ r. ⌜ r .count < 65536 ⌝ }
 {
     if !goes_with(h, toc, ns.len() as u16) {
@@ -433,9 +435,11 @@ fn add_two(
         × (at ≡ total (heldLengths (collectorOf h (now len) (now packet)))) × (leastStore ≤ length (now store)) ⌝ }
     requires frames { ⌜ (longest (m ∷ n ∷ []) ≤ mostBytes) × (first + total (m ∷ n ∷ []) ≤ length (now «data»)) ⌝ }
     ensures answer { λ r. ⌜ addedOf r (now (len .exit)) (now (packet .exit))
-        ≡ addBlock (collectorOf h (now (len .entry)) (now (packet .entry))) toc (m ∷ n ∷ []) (now («data» .entry)) first (now (store .entry)) .answer ⌝ }
+        ≡ addBlock (collectorOf h (now (len .entry)) (now (packet .entry))) toc (m ∷ n ∷ []) (now («data» .entry)) first
+        (now (store .entry)) .answer ⌝ }
     ensures bytes { λ _. ⌜ now (store .exit)
-        ≡ addBlock (collectorOf h (now (len .entry)) (now (packet .entry))) toc (m ∷ n ∷ []) (now («data» .entry)) first (now (store .entry)) .store ⌝ }
+        ≡ addBlock (collectorOf h (now (len .entry)) (now (packet .entry))) toc (m ∷ n ∷ []) (now («data» .entry)) first
+        (now (store .entry)) .store ⌝ }
     ensures few { λ r. ⌜ r .count < 65536 ⌝ }
 {
     if !goes_with(h, toc, 2) {

@@ -35,7 +35,8 @@ returns-2 c =
     let w = c .before .before in
     let s = entry (w .before .before .before .before) in
     none-answered _ _ _ (c .broken-head2 .ensures)
-    ∙ two-over (s .args .self-delimited) (s .args .«data» .now) (s .pre .0 .0) _ _ (found (w .before)) (omega (arith, c .before .if1 .taken, w .wide .ensures .0))
+    ∙ two-over (s .args .self-delimited) (s .args .«data» .now) (s .pre .0 .0) _ _ (found (w .before))
+    (omega (arith, c .before .if1 .taken, w .wide .ensures .0))
 
 last-frame-requires : tie.Need-last-frame-requires
 last-frame-requires c κs =

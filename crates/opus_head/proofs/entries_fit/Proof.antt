@@ -1,5 +1,5 @@
--- `opus_head::entries_fit` meets its contract. The invariant of its first loop: the entries passed fit, so the test is that of the rest. That of its second: the
--- test is what was seen so far together with that of the rest. The measures are what is left of the channels and of the mapping.
+-- `opus_head::entries_fit` meets its contract. The invariant of its first loop: the entries passed fit, so the test is that of the rest. That of its second:
+-- the test is what was seen so far together with that of the rest. The measures are what is left of the channels and of the mapping.
 -- Assumes nothing.
 use borrow.Author.Needs.{needs}
 use Prim.Native.Nat.{_-_, _≤_}

@@ -34,7 +34,8 @@ returns-2 c =
     let f = c .before .before in
     let i = f .before in
     let w = some i in
-    c .unsound .ensures ∙ check-unfit (taken w) (λ z. i .if1 .left (w .wide .ensures .0 ∙ z)) (sym (f .head-fits .ensures) ∙ not-true _ (c .before .if2 .taken))
+    c .unsound .ensures
+    ∙ check-unfit (taken w) (λ z. i .if1 .left (w .wide .ensures .0 ∙ z)) (sym (f .head-fits .ensures) ∙ not-true _ (c .before .if2 .taken))
 
 -- where the tests of the head have passed
 abbrev passed : tie.Else2 → tie.Else1

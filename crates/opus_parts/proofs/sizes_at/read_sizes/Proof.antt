@@ -39,8 +39,8 @@ returns-2 c =
     let l = b .before .before .loop in
     let s = b .before .before .before .before .args .s .now in
     let first = f .wide-byte .ensures .0 in
-    let none =
-    short-was s (l .next) (sym (at-cut s (l .next) (omega (arith, l .inv .summed, b .if1 .left)) (omega (arith, first, c .before .if2 .taken)) (c .if3 .taken))) in
+    let inside : l .next < length s = omega (arith, l .inv .summed, b .if1 .left) in
+    let none = short-was s (l .next) (sym (at-cut s (l .next) inside (omega (arith, first, c .before .if2 .taken)) (c .if3 .taken))) in
     sizes-cut _ _ _ _ _ _ _ (l .inv) (b .before .loop-test .taken) (b .if1 .left) none _ (omega arith) _
 
 -- the field of this turn
