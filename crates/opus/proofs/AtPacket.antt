@@ -10,7 +10,7 @@
 use Prim.Native.Nat.{ℕ, zero, suc, _+_, _*_, _-_, _/_, _%_, _≤_, _<_}
 use native.Mathlib.Omega.{arith}
 use native.Mathlib.Nat.{add-zero, mul-le-mul-left}
-use mathlib.Core.Path.{_≡_, refl, sym, ap}
+use mathlib.Core.Path.{_≡_, refl, sym, ap, _∙_}
 use mathlib.Core.List.{List, [], _∷_}
 use mathlib.Core.Bool.{Bool, true, false, cond}
 use lib.Dec.{ltb, leb}
@@ -42,7 +42,7 @@ use Rattle.opus_parts.specs.declared.sizes_at.SizesAt.the-variants.{All, Cut}
 use Rattle.opus.specs.declared.Packet.{Packet}
 use Rattle.opus.specs.declared.PacketHead.{PacketHead}
 use Rattle.opus_size.proofs.At.{Found}
-use Rattle.opus_parts.proofs.AtSizes.{place-is, none-known}
+use Rattle.opus_parts.proofs.AtSizes.{place-is, one-fits, one-over, none-known}
 use Rattle.opus_parts.proofs.AtFrames.{Within, unequal-within, equal-within}
 use Rattle.opus_parts.proofs.AtPadding.{Padded, padding-was}
 
@@ -297,15 +297,13 @@ module _ (s : List ℕ) where
   one-none e = rw e
 
   module _ (n next : ℕ) (f : Found s 0 n next) where
-    one-over : length s - next < n → together (readFields 1 s) ≡ noFields s
-    one-over h =
-        let over : ltb (length (drop next s)) n ≡ true = lt-ltb (length (drop next s)) n (omega (arith, length-drop next s)) in
-        rw (f .means, over)
+    one-long : length s - next < n → together (readFields 1 s) ≡ noFields s
+    one-long h = ap together (one-over s 0 n next 0 f h)
 
     pub one-field : n ≤ length s - next → (l : List ℕ) → l ≡ padded48 [] → SizesRead s (together (readFields 1 s)) (All next n) (set l 0 n)
     one-field h l e =
-        let fits : ltb (length (drop next s)) n ≡ false = le-ltb (length (drop next s)) n (omega (arith, length-drop next s)) in
-        let all : together (readFields 1 s) ≡ fields (n ∷ []) (drop next s) = rw (f .means, fits, add-zero n, fits) in
+        let fits : ltb (length (drop next s)) (n + 0) ≡ false = le-ltb (length (drop next s)) (n + 0) (omega (arith, length-drop next s)) in
+        let all : together (readFields 1 s) ≡ fields (n ∷ []) (drop next s) = ap together (one-fits s 0 n next 0 f h) ∙ rw fits in
         rw (all, place-is s next (f .within), e) (ap (All next) (sym (add-zero n)), refl)
 
 module _ (sd : Bool) (d : List ℕ) (h : 1 ≤ length d) where
@@ -340,7 +338,7 @@ module _ (sd : Bool) (d : List ℕ) (h : 1 ≤ length d) where
 
   pub two-over : (n next : ℕ) → Found (part d 1 (length d)) 0 n next → length (part d 1 (length d)) - next < n
       → noPacket (ruleRefusal R4 1) ≡ packetOf (accept (length d) (getD d 0 0) 0 (unequal sd R4 1 (drop 1 d)))
-  two-over n next f over = two-cut (one-over (part d 1 (length d)) n next f over)
+  two-over n next f over = two-cut (one-long (part d 1 (length d)) n next f over)
 
   pub two-read : (f : FramesAt) (l : List ℕ) → FramesRead (part d 1 (length d)) (unequalIn sd R4 1 (part d 1 (length d))) f l
       → (x : PacketHead) → x ≡ headAt (getD d 0 0) 2 1 0 f

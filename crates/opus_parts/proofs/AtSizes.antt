@@ -61,13 +61,13 @@ before-more done n (noFields t) = refl
 before-more done n (fields ns s) = rw append-assoc
 
 -- one field more, by the test of its length
-one-fits : (s : List ℕ) (next n after j : ℕ) → Found s next n after → n ≤ length s - after
+pub one-fits : (s : List ℕ) (next n after j : ℕ) → Found s next n after → n ≤ length s - after
     → readFields (suc j) (drop next s) ≡ before n (readFields j (drop after s))
 one-fits s next n after j f h =
     let fits : ltb (length (drop after s)) n ≡ false = le-ltb (length (drop after s)) n (omega (arith, length-drop after s)) in
     rw (f .means, fits)
 
-one-over : (s : List ℕ) (next n after j : ℕ) → Found s next n after → length s - after < n → readFields (suc j) (drop next s)
+pub one-over : (s : List ℕ) (next n after j : ℕ) → Found s next n after → length s - after < n → readFields (suc j) (drop next s)
     ≡ noFields (drop next s)
 one-over s next n after j f h =
     let over : ltb (length (drop after s)) n ≡ true = lt-ltb (length (drop after s)) n (omega (arith, length-drop after s)) in
