@@ -29,12 +29,12 @@ use denote.Builtin.{i32}
 use denote.Ref.{RefT}
 use denote.Struct.Laws as LL
 use Rattle.opus_toc.proofs.Samples8k.Laws as S′
-use Rattle.repacketizer.specs.declared.OpusRepacketizer.{OpusRepacketizer}
-use Rattle.repacketizer.specs.Parts.{headOf}
-use Rattle.repacketizer.proofs.OpusRepacketizer as T
-use Rattle.repacketizer.proofs.OpusRepacketizer.Laws as T′
-use Rattle.repacketizer.proofs.Head as D
-use Rattle.repacketizer.proofs.Head.Laws as D′
+use Rattle.collector.specs.declared.OpusRepacketizer.{OpusRepacketizer}
+use Rattle.collector.specs.Parts.{headOf}
+use Rattle.collector.proofs.OpusRepacketizer as T
+use Rattle.collector.proofs.OpusRepacketizer.Laws as T′
+use Rattle.collector.proofs.Head as D
+use Rattle.collector.proofs.Head.Laws as D′
 use Rattle.walks.proofs.Steps.{Holds}
 use Rattle.walks.proofs.Lent.{Stand, values}
 

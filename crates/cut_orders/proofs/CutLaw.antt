@@ -23,7 +23,7 @@ use Rattle.opus_defines.specs.declared.Refusal.the-variants.{BufferTooSmall}
 use Rattle.opus_toc.specs.Toc.{upperSix}
 use Rattle.opus_format.specs.Frames.{lengths, joined}
 use Rattle.opus_header.specs.Compact.{compact}
-use Rattle.repacketizer.specs.Collector.{held}
+use Rattle.collector.specs.Collector.{held}
 use Rattle.repacketizer.specs.Runs.{State, Ready}
 use Rattle.repacketizer_out.specs.Output.{range, output, outFrames}
 use Rattle.repacketizer_out.specs.Pieces.{Cut, Cuts, Room, packed, outputsAdded}

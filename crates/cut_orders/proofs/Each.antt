@@ -27,8 +27,8 @@ use Rattle.opus_defines.specs.Outcome.{Effect, refusal, wrote, leaves}
 use Rattle.opus_defines.specs.declared.Refusal.{Refusal}
 use Rattle.opus_defines.specs.declared.Refusal.the-variants.{BadArg, InvalidState}
 use Rattle.opus_defines.proofs.Outcomes.{refusal-negative, refusal-not}
-use Rattle.repacketizer.specs.declared.OpusRepacketizer.{OpusRepacketizer}
-use Rattle.repacketizer.specs.Collector.{leastStore, sound}
+use Rattle.collector.specs.declared.OpusRepacketizer.{OpusRepacketizer}
+use Rattle.collector.specs.Collector.{leastStore, sound}
 use Rattle.repacketizer_out.specs.Output.{outFrames}
 use Rattle.cut_orders.specs.declared.Order.{Order}
 use Rattle.cut_orders.specs.Orders.{Cutting, refusedAt, cutInto, behind, next, each, begun, mostOrders, orderReport, natural, turns, done}

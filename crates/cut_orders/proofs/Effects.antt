@@ -28,9 +28,9 @@ use Rattle.opus_header.specs.Compact.{compact}
 use Rattle.opus_header.specs.Sums.{sumsOf}
 use Rattle.opus_header.specs.Forms.{compactBytes}
 use Rattle.opus_header.specs.declared.Sums.{Sums}
-use Rattle.repacketizer.specs.declared.OpusRepacketizer.{OpusRepacketizer}
-use Rattle.repacketizer.specs.Collector.{held, leastStore}
-use Rattle.repacketizer.proofs.Held.{Holding}
+use Rattle.collector.specs.declared.OpusRepacketizer.{OpusRepacketizer}
+use Rattle.collector.specs.Collector.{held, leastStore}
+use Rattle.collector.proofs.Held.{Holding}
 use Rattle.repacketizer_out.specs.Output.{range, output, outFrames}
 use Rattle.repacketizer_out.proofs.Ranges.{Part, part-of, length-held}
 use Rattle.repacketizer_out.proofs.Outputs.{output-short, output-fits}

@@ -9,8 +9,8 @@ use lib.ListN.{length, drop}
 use Rattle.laws.specs.Bytes.{Bytes}
 use Rattle.opus_toc.specs.Toc.{upperSix}
 use Rattle.opus_format.specs.Frames.{total}
-use Rattle.repacketizer.specs.declared.OpusRepacketizer.{OpusRepacketizer}
-use Rattle.repacketizer.specs.Collector.{held, sound}
+use Rattle.collector.specs.declared.OpusRepacketizer.{OpusRepacketizer}
+use Rattle.collector.specs.Collector.{held, sound}
 use Rattle.repacketizer.specs.Runs.{State, Ready, Empty, Holds, Arrival, AllBytes, AllAccepted, afterAdds, framesAccepted}
 use Rattle.repacketizer.proofs.Runs.{empty-ready}
 use Rattle.repacketizer.proofs.Promises.{frames-are-kept, collector-stays-sound}

@@ -26,8 +26,8 @@ use Rattle.opus_defines.specs.declared.Refusal.the-variants.{BadArg, BufferTooS
 use Rattle.opus_format.specs.Frames.{cut, total}
 use Rattle.blocks.proofs.LentParts.{put-back}
 use Rattle.opus_header.specs.Compact.{compact}
-use Rattle.repacketizer.specs.declared.OpusRepacketizer.{OpusRepacketizer}
-use Rattle.repacketizer.specs.Collector.{held}
+use Rattle.collector.specs.declared.OpusRepacketizer.{OpusRepacketizer}
+use Rattle.collector.specs.Collector.{held}
 use Rattle.repacketizer_out.specs.Output.{range, outFrames}
 use Rattle.repacketizer_out.proofs.Ranges.{Part}
 use Rattle.repacketizer_out.proofs.Outputs.{output-short, output-fits}

@@ -15,8 +15,8 @@ use Rattle.opus_defines.specs.Numbers.{numberOf, countOf}
 use Rattle.opus_defines.specs.declared.Answer.{Answer}
 use Rattle.opus_defines.specs.declared.Count.the-variants.{Is, Negative}
 use Rattle.opus_defines.specs.declared.Refusal.the-variants.{BadArg, InvalidState}
-use Rattle.repacketizer.specs.declared.OpusRepacketizer.{OpusRepacketizer}
-use Rattle.repacketizer.specs.Collector.{leastStore, sound}
+use Rattle.collector.specs.declared.OpusRepacketizer.{OpusRepacketizer}
+use Rattle.collector.specs.Collector.{leastStore, sound}
 use Rattle.cut_orders.specs.declared.OrderReport.{OrderReport}
 use Rattle.cut_orders.specs.Orders.{refusedAt, cutInto, begun, mostOrders, turns}
 

@@ -15,8 +15,8 @@ use Rattle.opus_defines.specs.Bounds.{mostPacket}
 use Rattle.opus_defines.specs.Outcome.{Effect, refusal, wrote, Outcome, leaves}
 use Rattle.opus_defines.proofs.Outcomes.{refusal-negative, refusal-not}
 use Rattle.opus_toc.specs.Toc.{upperSix}
-use Rattle.repacketizer.specs.declared.OpusRepacketizer.{OpusRepacketizer}
-use Rattle.repacketizer.specs.Collector.{held, leastStore, sound}
+use Rattle.collector.specs.declared.OpusRepacketizer.{OpusRepacketizer}
+use Rattle.collector.specs.Collector.{held, leastStore, sound}
 use Rattle.repacketizer_out.specs.Output.{outFrames, outRange}
 use Rattle.repacketizer_out.proofs.Outputs.{out-sound}
 use Rattle.cut_orders.specs.declared.Order.{Order}

@@ -12,8 +12,8 @@ use Rattle.opus_defines.specs.Outcome.{Effect, refusal, wrote}
 use Rattle.opus_defines.specs.declared.Refusal.{Refusal}
 use Rattle.opus_defines.specs.declared.Refusal.the-variants.{BadArg, InvalidState}
 use Rattle.opus_toc.specs.Toc.{upperSix}
-use Rattle.repacketizer.specs.declared.OpusRepacketizer.{OpusRepacketizer}
-use Rattle.repacketizer.specs.Collector.{held, leastStore, sound}
+use Rattle.collector.specs.declared.OpusRepacketizer.{OpusRepacketizer}
+use Rattle.collector.specs.Collector.{held, leastStore, sound}
 use Rattle.repacketizer_out.specs.Output.{outFrames}
 use Rattle.cut_orders.specs.declared.Order.{Order}
 use Rattle.cut_orders.specs.declared.OrderReport.{OrderReport}

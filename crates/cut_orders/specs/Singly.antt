@@ -7,7 +7,7 @@ use lib.IntN.{ℤ, pos, negsuc}
 use lib.ListN.{length, take, drop}
 use Rattle.opus_defines.specs.Outcome.{Outcome}
 use Rattle.opus_header.specs.Compact.{compact}
-use Rattle.repacketizer.specs.declared.OpusRepacketizer.{OpusRepacketizer}
+use Rattle.collector.specs.declared.OpusRepacketizer.{OpusRepacketizer}
 use Rattle.repacketizer.specs.Runs.{Arrival}
 use Rattle.repacketizer_out.specs.Output.{range, outRange}
 use Rattle.cut_orders.specs.declared.Order.{Order}

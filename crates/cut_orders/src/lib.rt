@@ -12,15 +12,15 @@ ghost use Rattle.opus_defines.specs.declared.Refusal.{Refusal};
 ghost use Rattle.opus_toc.specs.Toc.{upperSix};
 ghost use Rattle.opus_format.specs.Frames.{cut, total};
 ghost use Rattle.opus_header.specs.Compact.{compact};
-ghost use Rattle.repacketizer.specs.Collector.{held, leastStore, framed};
-ghost use Rattle.repacketizer.specs.Parts.{collectorOf, bare};
+ghost use Rattle.collector.specs.Collector.{held, leastStore, framed};
+ghost use Rattle.collector.specs.Parts.{collectorOf, bare};
 ghost use Rattle.repacketizer_out.specs.Output.{range, outFrames};
 ghost use Rattle.cut_orders.specs.Orders.{Cutting, begun, orderReport, next, turns, done, natural, outMany};
+use collector::Head;
 use opus_defines::Answer;
 use opus_defines::Count;
 use opus_defines::Refusal;
 use opus_defines::wide;
-use repacketizer::Head;
 
 // The most orders of one call: a collector holds no more frames.
 pub const MOST_ORDERS: usize = 48;
@@ -63,11 +63,11 @@ fn guard(
     ensures { λ r. ⌜ orderReport (begun (collectorOf h (now (len .entry)) (now (packet .entry))) store room orders)
         ≡ record { number = numberOf r; position = 0 } ⌝ }
 {
-    let c = repacketizer::check(h, len, packet);
+    let c = collector::check(h, len, packet);
     if !c.sound {
         return Answer::Refused(Refusal::InvalidState);
     }
-    if store < repacketizer::LEAST_STORE {
+    if store < collector::LEAST_STORE {
         return Answer::Refused(Refusal::BadArg);
     }
     if opus::MOST_PACKET < room {
@@ -167,7 +167,7 @@ fn put_range(h: Head, len: &[u16], store: &[u8], b: usize, e: usize, data: &mut 
     ensures bytes { λ _. ⌜ now («data» .exit)
         ≡ sets (now («data» .entry)) 0 (compact false (upperSix (h .toc)) (range b e (held (bare h (now (len .entry))) (now (store .entry))))) ⌝ }
 {
-    let before = repacketizer::measure(&len[..b]);
+    let before = collector::measure(&len[..b]);
     opus_header::put_compact(data, h.toc, &len[b..e], store, wide(before.total), false)
 }
 

@@ -1,11 +1,11 @@
 // Runs document 01's cases at the edges for the collector, its output, pad, unpad and the multistream calls through the compiled code, and those of
 // document 02: M-100 on rule and place, M-105 on strict adds, M-107 on packet numbers. A line is a case: what was called, the number it answered, or number,
 // rule and place, and the buffer.
+use collector::OpusRepacketizer;
 use opus_defines::Answer;
 use opus_defines::Report;
 use opus_defines::Verdict;
 use repacketizer::Added;
-use repacketizer::OpusRepacketizer;
 use repacketizer::strict::opus_repacketizer_cat_strict;
 use repacketizer_out::by_number::opus_repacketizer_out_packet;
 
@@ -55,12 +55,12 @@ fn out_self(rp: OpusRepacketizer, store: &[u8], data: &mut [u8], pad: bool) {
 // Two packets, the second with other lower TOC bits, one that does not fit, and outputs.
 fn collector_cases() {
     let mut store = [0u8; 61200];
-    let rp0 = repacketizer::opus_repacketizer_init();
+    let rp0 = collector::opus_repacketizer_init();
     let rp1 = added(repacketizer::opus_repacketizer_cat(rp0, b"\x00\xaa", &mut store));
     let rp2 = added(repacketizer::opus_repacketizer_cat(rp1, b"\x00\xbb\xcc", &mut store));
     let rp3 = added(repacketizer::opus_repacketizer_cat(rp2, b"\x04\xdd", &mut store));
     show::text(b"held: ");
-    show::number(repacketizer::opus_repacketizer_get_nb_frames(rp3));
+    show::number(collector::opus_repacketizer_get_nb_frames(rp3));
     show::text(b"\n");
     outputs(rp3, &store);
 }
@@ -68,12 +68,12 @@ fn collector_cases() {
 // Padding of zeros, and not: strict adds (document 02, M-105).
 fn strict_cases() {
     let mut store = [0u8; 61200];
-    let rp0 = repacketizer::opus_repacketizer_init();
+    let rp0 = collector::opus_repacketizer_init();
     let rp1 = added(opus_repacketizer_cat_strict(rp0, b"\x03\x41\x01\xaa\x00", &mut store));
     let rp2 = added(opus_repacketizer_cat_strict(rp1, b"\x03\x41\x01\xaa\x01", &mut store));
     let rp3 = added(opus_repacketizer_cat_strict(rp2, b"\x07\x41\x01\xaa\x01", &mut store));
     show::text(b"held: ");
-    show::number(repacketizer::opus_repacketizer_get_nb_frames(rp3));
+    show::number(collector::opus_repacketizer_get_nb_frames(rp3));
     show::text(b"\n");
 }
 
@@ -264,7 +264,7 @@ fn add_place(rp: OpusRepacketizer, name: &[u8], data: &[u8], store: &mut [u8]) {
 // To a collector that holds 00 AA: another TOC byte, no count byte, a joint total above 120 ms, and the packet's own. Then to an empty one.
 fn add_place_cases() {
     let mut store = [0u8; 61200];
-    let empty = repacketizer::opus_repacketizer_init();
+    let empty = collector::opus_repacketizer_init();
     let a = repacketizer::opus_repacketizer_cat(empty, b"\x00\xaa", &mut store);
     let rp = a.rp;
     add_place(rp, b"07", b"\x07", &mut store);
@@ -362,7 +362,7 @@ fn numbered(rp: OpusRepacketizer, store: &[u8], count: u16, first: u8, second: u
     show::text(b" ");
     show::decimal(second as usize);
     show::text(b": ");
-    show::number(repacketizer::opus_repacketizer_get_nb_frames(held));
+    show::number(collector::opus_repacketizer_get_nb_frames(held));
     show::text(b"\n");
     let mut five = [238u8; 5];
     out_packet(held, store, first as i32, &mut five);
@@ -380,7 +380,7 @@ fn numbered_cases(rp: OpusRepacketizer, store: &[u8]) {
 // Three packets of which the last has two frames.
 fn number_cases() {
     let mut store = [0u8; 61200];
-    let rp0 = repacketizer::opus_repacketizer_init();
+    let rp0 = collector::opus_repacketizer_init();
     let rp1 = added(repacketizer::opus_repacketizer_cat(rp0, b"\x00\xaa", &mut store));
     let rp2 = added(repacketizer::opus_repacketizer_cat(rp1, b"\x00\xbb\xcc", &mut store));
     let rp3 = added(repacketizer::opus_repacketizer_cat(rp2, b"\x01\xdd\xee", &mut store));

@@ -2,10 +2,10 @@
 --     goes-none, goes-other, goes-time      whether frames go with those held
 --     with-few, with-timed, with-room       those held and the new ones last at most 120 ms, so they are at most 48 and fit the store
 --     refused-head, more-..                 what an add answers beside the lengths
---     head-few, Joins, joins, block-stays   frames of lengths ns beside those of a head and its lengths, by a test g of whether they go together
+--     head-few, Joins, joins-.., block-..   frames of lengths ns beside those of a head and its lengths, by a test g of whether they go together
 --     stays-..                              what 001 asks before it reads
---     block-.., add-..                      an add by each of its tests
---     Ends, ends, refused-same              the two ways in which an add ends
+--     add-..                                an add by each of its tests
+--     Took, took, took-goes, refused-keeps  the two ways in which an add ends
 -- Assumes nothing.
 use Prim.Native.Nat.{ℕ, zero, suc, _+_, _*_, _-_, _≤_, _<_}
 use native.Mathlib.Nat.{zero-add}
@@ -38,16 +38,17 @@ use Rattle.opus_format.proofs.Sound.{read-spelled}
 use Rattle.blocks.specs.Blocks.{copied}
 use Rattle.packet_numbers.specs.Numbers.{numberAfter}
 use Rattle.packet_numbers.proofs.Numbering.{last-small}
-use Rattle.repacketizer.specs.declared.OpusRepacketizer.{OpusRepacketizer}
-use Rattle.repacketizer.specs.declared.Head.{Head}
+use Rattle.collector.specs.declared.OpusRepacketizer.{OpusRepacketizer}
+use Rattle.collector.specs.declared.Head.{Head}
+use Rattle.collector.specs.Collector.{heldLengths, leastStore, framed, sound}
+use Rattle.collector.specs.Parts.{collectorOf, bare}
 use Rattle.repacketizer.specs.declared.AddedHead.{AddedHead}
-use Rattle.repacketizer.specs.Collector.{heldLengths, leastStore, framed, sound}
 use Rattle.repacketizer.specs.Adding.{Adding, noAdd, goesWith, apart, saidFrames, staysOut, withFrames, readAdds, packetAdds, adds, addPacket, added}
 use Rattle.repacketizer.specs.Adding.{Addition, refusal, takes, leavesAdd}
-use Rattle.repacketizer.specs.Parts.{collectorOf, bare, refusedHead, moreFrames, addBlock, whyNot, addedOf}
+use Rattle.repacketizer.specs.Parts.{ReadyAt, Leaves, refusedHead, moreFrames, addBlock, whyNot}
 use Rattle.opus_format.proofs.Lengths.{total-most}
-use Rattle.repacketizer.proofs.Held.{holding}
-use Rattle.repacketizer.proofs.Sound.{Timed, timed-lasts, lasts-timed, none-sound, framed-full, sound-framed, sound-numbered}
+use Rattle.collector.proofs.Held.{holding}
+use Rattle.collector.proofs.Sound.{Timed, timed-lasts, lasts-timed, none-sound, framed-full, sound-framed, sound-numbered}
 
 -- ---- whether frames go with those held
 module _ (rp : OpusRepacketizer) (toc n : ℕ) where
@@ -105,7 +106,7 @@ module _ (h : Head) (count : ℕ) (e : count ≡ h .«nb_frames») where
 
 -- a refused add, as the code hands it back
 pub refused-as : {a : Adding} {e : Refusal} {h : Head} {len packet store : List ℕ} {r : AddedHead} → a ≡ noAdd e (collectorOf h len packet) store
-    → (r ≡ refusedHead e h) × (r .count < 65536) → (addedOf r len packet ≡ a .answer) × ((store ≡ a .store) × (r .count < 65536))
+    → (r ≡ refusedHead e h) × (r .count < 65536) → Leaves r len packet store a
 refused-as p q = (rw (p, q .0), (rw p, q .1))
 
 -- ---- what 001 asks before it reads
@@ -201,54 +202,57 @@ module _ (rp : OpusRepacketizer) (toc : ℕ) (ns p : List ℕ) (first : ℕ) (st
 
 -- ---- the same as the code makes it, of the collector with a head, lengths and numbers
 -- frames of lengths ns go with those held, and so are few and fit the store
-pub record Joins (h : Head) (len packet : List ℕ) (toc : ℕ) (ns : List ℕ) : Type 0 where
+pub record Joins (h : Head) (len packet : List ℕ) (at toc : ℕ) (ns store : List ℕ) : Type 0 where
+  pub ready : ReadyAt h len packet at store
   pub goes : goesWith (collectorOf h len packet) toc (length ns) ≡ true
   pub few : h .«nb_frames» + length ns ≤ 48
-  pub room : total (heldLengths (collectorOf h len packet)) + total ns ≤ leastStore
+  pub room : at + total ns ≤ length store
   -- the last number held can be counted up
   pub countable : 1 ≤ h .«nb_frames» → getD packet (h .«nb_frames» - 1) 0 < 255
 
-module _ (h : Head) (len packet : List ℕ) (b : h .toc < 256) (l : length len ≡ 48) (s : sound (collectorOf h len packet) ≡ true) where
+module _ {h : Head} {len packet : List ℕ} {at : ℕ} {store : List ℕ} (b : h .toc < 256) (r : ReadyAt h len packet at store) where
   abbrev rp : OpusRepacketizer
   rp = collectorOf h len packet
 
   pub head-few : h .«nb_frames» ≤ 48
-  head-few = holding rp b l (sound-framed rp s) .few
+  head-few = holding rp b (r .lengths48) (sound-framed rp (r .soundly)) .few
 
   -- g says that they go together
-  pub joins : length packet ≡ 48 → (toc : ℕ) (ns : List ℕ) {g : Bool} → g ≡ goesWith (bare h []) toc (length ns) → not g ≡ false
-      → length ns ≤ 48 → longest ns ≤ mostBytes → Joins h len packet toc ns
-  joins k toc ns e t few small =
+  pub joins : (toc : ℕ) (ns : List ℕ) {g : Bool} → g ≡ goesWith (bare h []) toc (length ns) → not g ≡ false
+      → length ns ≤ 48 → longest ns ≤ mostBytes → Joins h len packet at toc ns store
+  joins toc ns e t few small =
       let goes : goesWith rp toc (length ns) ≡ true = sym e ∙ not-false _ t in
-      let f = sound-framed rp s in
+      let f = sound-framed rp (r .soundly) in
       record {
+        ready = r;
         goes = goes;
         few = with-few rp toc ns f goes b few;
-        room = with-room rp toc ns f goes b l few small;
-        countable = last-small packet (h .«nb_frames») (omega (arith, head-few, k)) head-few (sound-numbered rp s);
+        room = omega (arith, with-room rp toc ns f goes b (r .lengths48) few small, r .place, r .roomy);
+        countable = last-small packet (h .«nb_frames») (omega (arith, head-few, r .numbers48)) head-few (sound-numbered rp (r .soundly));
       }
 
-module _ (h : Head) (len packet : List ℕ) (toc : ℕ) (ns p : List ℕ) (first : ℕ) (store : List ℕ) where
-  abbrev held-by : OpusRepacketizer
-  held-by = collectorOf h len packet
+module _ {h : Head} {len packet : List ℕ} {at toc : ℕ} {ns store : List ℕ} (j : Joins h len packet at toc ns store) where
+  -- what the code needs where it gives them their numbers
+  pub joins-numbers : {place end : ℕ} → place ≡ h .«nb_frames» → end ≡ place + length ns
+      → (place ≤ end) × (end ≤ length packet) × (1 ≤ place → getD packet (place - 1) 0 < 255)
+  joins-numbers q e = (omega arith, omega (arith, q, e, j .few, j .ready .numbers48), λ s. rw q (j .countable (omega (arith, q, s))))
 
-  -- g says that they do not
-  pub block-stays : {g : Bool} → g ≡ goesWith (bare h []) toc (length ns) → not g ≡ true
-      → {r : AddedHead} → (r ≡ refusedHead InvalidPacket h) × (r .count < 65536)
-      → let block = addBlock held-by toc ns p first store in
-      (addedOf r len packet ≡ block .answer) × ((store ≡ block .store) × (r .count < 65536))
-  block-stays e f q = refused-as (block-refused held-by toc ns p first store (sym e ∙ not-true _ f)) q
+  -- what it leaves, with the places that it found
+  pub joins-block : (p : List ℕ) (first : ℕ) {n place end : ℕ} {left all ks : List ℕ} {r : AddedHead}
+      → place ≡ h .«nb_frames» → left ≡ copied store at p first n → all ≡ sets len place ns
+      → ks ≡ sets packet place (replicate (end - place) (numberAfter packet place)) → r ≡ moreFrames h toc (length ns)
+      → n ≡ total ns → end ≡ place + length ns → Leaves r all ks left (addBlock (collectorOf h len packet) toc ns p first store)
+  joins-block p first {place = place} {end = end} q c l k w b e =
+      let m : end - place ≡ length ns = omega (arith, e) in
+      rw (block-added (collectorOf h len packet) toc ns p first store (j .goes), ← j .ready .place, ← b, ← q, w, l, k, m)
+      (rw q, (c, omega (arith, j .few)))
 
-  -- with the places that the code found
-  pub block-as : Joins h len packet toc ns → (at n place end : ℕ) (r : AddedHead) (all ks left : List ℕ)
-      → at ≡ total (heldLengths held-by) → n ≡ total ns → place ≡ h .«nb_frames» → end ≡ place + length ns
-      → r ≡ moreFrames h toc (length ns) → all ≡ sets len place ns
-      → ks ≡ sets packet place (replicate (end - place) (numberAfter packet place)) → left ≡ copied store at p first n
-      → let block = addBlock held-by toc ns p first store in
-      (addedOf r all ks ≡ block .answer) × ((left ≡ block .store) × (r .count < 65536))
-  block-as j at n place end r all ks left a b q e w l k c =
-      let m : end - place ≡ length ns = omega arith in
-      rw (block-added held-by toc ns p first store (j .goes), ← a, ← b, ← q, w, l, k, m) (rw q, (c, omega (arith, j .few)))
+-- g says that they do not
+pub block-stays : (h : Head) (len packet : List ℕ) (toc : ℕ) (ns p : List ℕ) (first : ℕ) (store : List ℕ) {g : Bool}
+    → g ≡ goesWith (bare h []) toc (length ns) → not g ≡ true → {r : AddedHead} → (r ≡ refusedHead InvalidPacket h) × (r .count < 65536)
+    → Leaves r len packet store (addBlock (collectorOf h len packet) toc ns p first store)
+block-stays h len packet toc ns p first store e f q =
+    refused-as (block-refused (collectorOf h len packet) toc ns p first store (sym e ∙ not-true _ f)) q
 
 module _ (sd : Bool) (rp : OpusRepacketizer) (p store : List ℕ) where
   pub add-unsound : sound rp ≡ false → added sd rp p store ≡ noAdd InvalidState rp store

@@ -18,7 +18,7 @@ use Rattle.opus_toc.specs.Toc.{configuration, samples}
 use Rattle.opus_format.specs.Reading.{accepted, read}
 use Rattle.blocks.specs.Blocks.{part, copied}
 use Rattle.blocks.proofs.Sets.{sets-before, length-part-le}
-use Rattle.repacketizer.specs.declared.OpusRepacketizer.{OpusRepacketizer}
+use Rattle.collector.specs.declared.OpusRepacketizer.{OpusRepacketizer}
 use Rattle.repacketizer.specs.Adding.{Addition, refusal, takes, withFrames, leavesAdd, adds, added}
 use Rattle.repacketizer.proofs.Adds.{taken, took}
 

@@ -1,9 +1,5 @@
-pub mod Counts
 pub mod Lengths
-pub mod Sound
 pub mod Numbering
-pub mod Held
-pub mod Checks
 pub mod Parsed
 pub mod Adds
 pub mod Kept

@@ -10,8 +10,8 @@ use Rattle.laws.proofs.Never.{by-test}
 use Rattle.opus_format.specs.Reading.{Reading, refused, accepted, read}
 use Rattle.opus.specs.Named.{Named, unnamed}
 use Rattle.opus.proofs.Naming.{front-named}
-use Rattle.repacketizer.specs.declared.OpusRepacketizer.{OpusRepacketizer}
-use Rattle.repacketizer.specs.Collector.{leastStore, sound}
+use Rattle.collector.specs.declared.OpusRepacketizer.{OpusRepacketizer}
+use Rattle.collector.specs.Collector.{leastStore, sound}
 use Rattle.repacketizer.specs.Adding.{addedReport, leavesAdd, staysOut, readAdds, added}
 
 pub add-named : (sd : Bool) (rp : OpusRepacketizer) (p store : List ℕ) → Named p (addedReport (added sd rp p store .answer))

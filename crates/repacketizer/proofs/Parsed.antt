@@ -13,7 +13,7 @@ use Rattle.opus.specs.Answers.{parsed, answerOf}
 use Rattle.opus.specs.declared.PacketHead.{PacketHead}
 use Rattle.opus.proofs.Parsed.{Read, parsed-accepted, parsed-refused}
 use Rattle.opus.proofs.Lent.{packetWith, lent-accepted}
-use Rattle.repacketizer.specs.declared.OpusRepacketizer.{OpusRepacketizer}
+use Rattle.collector.specs.declared.OpusRepacketizer.{OpusRepacketizer}
 use Rattle.repacketizer.specs.Adding.{noAdd, addPacket}
 use Rattle.repacketizer.specs.Parts.{whyNot}
 use Rattle.repacketizer.proofs.Adds.{add-refused}

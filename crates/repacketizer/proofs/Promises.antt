@@ -21,8 +21,8 @@ use Rattle.opus_toc.proofs.Samples.{lasts-at}
 use Rattle.opus_format.specs.Frames.{total}
 use Rattle.opus_format.specs.Reading.{refused, accepted, read}
 use Rattle.opus.specs.Named.{Named}
-use Rattle.repacketizer.specs.declared.OpusRepacketizer.{OpusRepacketizer}
-use Rattle.repacketizer.specs.Collector.{heldLengths, heldNumbers, held, leastStore, sound}
+use Rattle.collector.specs.declared.OpusRepacketizer.{OpusRepacketizer}
+use Rattle.collector.specs.Collector.{heldLengths, heldNumbers, held, leastStore, sound}
 use Rattle.repacketizer.specs.Adding.{goesWith, staysOut, adds, added, addedReport, addedNumber}
 use Rattle.repacketizer.specs.Runs.{State, Ready, Empty, Arrival, AllBytes, SameSix, afterAdds, framesAccepted, acceptedOf, blocks, framesOfAll}
 use Rattle.repacketizer.proofs.Adds.{block-refused, block-added, add-empty, refused-keeps}

@@ -10,11 +10,11 @@ use Rattle.opus_defines.specs.declared.Verdict.{Verdict}
 use Rattle.opus_defines.specs.declared.Verdict.the-variants.{Accepted, Refused}
 use Rattle.opus_toc.specs.Toc.{upperSix}
 use Rattle.opus_format.specs.Reading.{accepted, read}
-use Rattle.repacketizer.specs.Collector.{held, heldNumbers}
-use Rattle.repacketizer.specs.declared.OpusRepacketizer.{OpusRepacketizer}
+use Rattle.collector.specs.Collector.{held, heldNumbers}
+use Rattle.collector.specs.declared.OpusRepacketizer.{OpusRepacketizer}
+use Rattle.collector.proofs.Sound.{none-sound}
 use Rattle.repacketizer.specs.Runs.{State, Ready, Empty, Arrival, AllBytes, SameSix, adding, afterAdd, afterAdds, framesAdded, framesAccepted}
 use Rattle.repacketizer.specs.Runs.{framesIf, framesIn, framesOfAll, acceptedIf, acceptedOf, blocks}
-use Rattle.repacketizer.proofs.Sound.{none-sound}
 use Rattle.repacketizer.proofs.Steps.{add-ready, add-held, add-bytes, add-six, next, add-numbers, add-read}
 
 pub empty-ready : (s : State) → Empty s → Ready s

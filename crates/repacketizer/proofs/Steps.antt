@@ -30,15 +30,15 @@ use Rattle.opus_format.proofs.Sound.{read-spelled}
 use Rattle.opus_format.proofs.Facts.{Facts, facts}
 use Rattle.blocks.specs.Blocks.{part}
 use Rattle.packet_numbers.specs.Numbers.{numberAfter}
-use Rattle.repacketizer.specs.Collector.{held, heldLengths, heldNumbers, framed}
+use Rattle.collector.specs.Collector.{held, heldLengths, heldNumbers, framed}
+use Rattle.collector.specs.declared.OpusRepacketizer.{OpusRepacketizer}
 use Rattle.repacketizer.specs.Adding.{Adding, goesWith, withFrames, Addition, refusal, takes, leavesAdd, addsBy}
-use Rattle.repacketizer.specs.declared.OpusRepacketizer.{OpusRepacketizer}
 use Rattle.repacketizer.specs.Runs.{State, Ready, Arrival, adding, afterAdd, framesIf, framesIn, framesAdded}
 use Rattle.opus_format.proofs.Lengths.{longest-append}
+use Rattle.collector.proofs.Sound.{full-framed, sound-framed, sound-numbered, both-sound}
+use Rattle.collector.proofs.Held.{Holding, holding}
 use Rattle.repacketizer.proofs.Lengths.{take-sets-at, cut-copied}
-use Rattle.repacketizer.proofs.Sound.{full-framed, sound-framed, sound-numbered, both-sound}
 use Rattle.repacketizer.proofs.Numbering.{put-numbers, numbered-grown, after-grown}
-use Rattle.repacketizer.proofs.Held.{Holding, holding}
 use Rattle.repacketizer.proofs.Adds.{with-few, with-timed, with-room, taken, Took, took-goes}
 use Rattle.repacketizer.proofs.StrictAdds.{by-adds, took-by}
 

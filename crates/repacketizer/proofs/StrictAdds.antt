@@ -8,7 +8,7 @@
 --     by-sound, ..             an add of either kind by the collector and the store
 --     strict-dirty, dirty-as   where padding is dirty, nothing is added, and the refusal is what the ordinary add asks first
 --     strict-same              the same by the test of the code, which leaves a packet of over 65,535 bytes to the ordinary add
---     by-uncounted             a packet of code 0, 1 or 2 has no padding to be asked for
+--     by-uncounted, by-short   a packet of code 0, 1 or 2 has no padding to be asked for
 -- Assumes nothing.
 use Prim.Native.Nat.{ℕ, _≤_, _<_}
 use mathlib.Core.Path.{_≡_, refl, sym, _∙_}
@@ -18,6 +18,7 @@ use lib.Dec.{ltb, leb}
 use lib.IntN.{negsuc}
 use lib.ListN.{length, getD}
 use borrow.Author.Tests.{leb-true, le-leb, lt-leb, lt-ltb, le-ltb, ltb-true, ltb-false}
+use Rattle.laws.specs.Bytes.{Bytes}
 use Rattle.laws.proofs.Never.{never, by-test}
 use Rattle.laws.proofs.Every.{both-left, both-right}
 use Rattle.opus_defines.specs.declared.Refusal.{Refusal}
@@ -27,13 +28,15 @@ use Rattle.opus_toc.specs.Toc.{code}
 use Rattle.padding.proofs.Asking.{asks-not-3, clean-unasked}
 use Rattle.opus_format.specs.Dirt.{paddingOf, dirty, dirtyPacket}
 use Rattle.opus_format.specs.Reading.{Reading, refused, accepted, read}
-use Rattle.repacketizer.specs.declared.OpusRepacketizer.{OpusRepacketizer}
-use Rattle.repacketizer.specs.declared.Head.{Head}
-use Rattle.repacketizer.specs.Collector.{leastStore, sound}
+use Rattle.opus.proofs.AtShort.{ShortRead}
+use Rattle.collector.specs.declared.OpusRepacketizer.{OpusRepacketizer}
+use Rattle.collector.specs.declared.Head.{Head}
+use Rattle.collector.specs.Collector.{leastStore, sound}
+use Rattle.collector.specs.Parts.{collectorOf, bare}
 use Rattle.repacketizer.specs.Adding.{noAdd, staysOut, Addition, refusal, takes, leavesAdd, readAdds, unlessDirty, adds, addsBy, addPacket, added}
 use Rattle.repacketizer.specs.Adding.{packetAdds, addedStrictly, addedBy, addedNumber}
-use Rattle.repacketizer.specs.Parts.{collectorOf, bare, hasDirt, whyDirty, addPacketBy}
-use Rattle.repacketizer.proofs.Adds.{Took, took, stays-lengths}
+use Rattle.repacketizer.specs.Parts.{addBlock, hasDirt, whyDirty, addPacketBy}
+use Rattle.repacketizer.proofs.Adds.{Took, took, stays-lengths, add-read}
 
 pub by-adds : (strict sd : Bool) (rp : OpusRepacketizer) (p store : List ℕ)
     → addedBy strict sd rp p store ≡ leavesAdd rp p store (addsBy strict sd rp p (length store))
@@ -190,3 +193,8 @@ by-uncounted strict sd rp p store n = by-no-dirt strict sd rp p store (go strict
     go : (strict : Bool) → strict && hasDirt sd p ≡ false
     go false = refl
     go true = clean
+
+pub by-short : (strict : Bool) (rp : OpusRepacketizer) (p store : List ℕ) {ns : List ℕ} {first : ℕ} → Bytes p → ShortRead p ns first
+    → addPacketBy strict false rp p store ≡ addBlock rp (getD p 0 0) ns p first store
+by-short strict rp p store b r =
+    by-uncounted strict false rp p store (r .uncounted) ∙ add-read false rp p store _ _ _ (r .taken) b (r .short) (r .means)

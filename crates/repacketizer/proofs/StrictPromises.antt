@@ -13,7 +13,7 @@ use Rattle.opus_defines.specs.declared.Verdict.{Verdict}
 use Rattle.opus_defines.specs.declared.Verdict.the-variants.{Accepted, Refused}
 use Rattle.opus_format.specs.Dirt.{dirtyPacket}
 use Rattle.opus.specs.Named.{Named, unnamed}
-use Rattle.repacketizer.specs.declared.OpusRepacketizer.{OpusRepacketizer}
+use Rattle.collector.specs.declared.OpusRepacketizer.{OpusRepacketizer}
 use Rattle.repacketizer.specs.Adding.{Adding, Addition, refusal, takes, leavesAdd, adds, addsBy, added, addedStrictly, addedReport, addedNumber}
 use Rattle.repacketizer.proofs.Adds.{refused-keeps, add-empty}
 use Rattle.repacketizer.proofs.Naming.{add-named}

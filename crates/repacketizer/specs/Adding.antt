@@ -23,9 +23,9 @@ use Rattle.opus_format.specs.Reading.{lasts, Reading, refused, accepted, read}
 use Rattle.opus_format.specs.Dirt.{dirtyPacket}
 use Rattle.blocks.specs.Blocks.{copied}
 use Rattle.packet_numbers.specs.Numbers.{numberAfter}
-use Rattle.repacketizer.specs.declared.OpusRepacketizer.{OpusRepacketizer}
+use Rattle.collector.specs.declared.OpusRepacketizer.{OpusRepacketizer}
+use Rattle.collector.specs.Collector.{heldLengths, leastStore, sound}
 use Rattle.repacketizer.specs.declared.Added.{Added}
-use Rattle.repacketizer.specs.Collector.{heldLengths, leastStore, sound}
 
 -- the answer, with the collector handed back, and the store
 pub record Adding : Type 0 where

@@ -1,4 +1,3 @@
-pub mod Collector
 pub mod Adding
 pub mod Parts
 pub mod Runs

@@ -1,6 +1,7 @@
 -- What the inner functions answer, where a collector's lengths and numbers are lent beside the rest of it.
-use Prim.Native.Nat.{ℕ, _+_, _*_, _%_}
-use mathlib.Core.List.{List, []}
+use Prim.Native.Nat.{ℕ, _+_, _≤_, _<_}
+use mathlib.Core.Path.{_≡_}
+use mathlib.Core.List.{List}
 use mathlib.Core.Bool.{Bool, true, false, cond, _&&_}
 use lib.Dec.{leb, eqb}
 use lib.ListN.{length}
@@ -9,47 +10,23 @@ use Rattle.opus_defines.specs.declared.Refusal.{Refusal}
 use Rattle.opus_defines.specs.declared.Refusal.the-variants.{InvalidPacket, DirtyPadding}
 use Rattle.opus_defines.specs.declared.Verdict.the-variants.{Accepted, Refused}
 use Rattle.opus_toc.specs.Toc.{configuration, samples}
-use Rattle.opus_format.specs.Frames.{total, longest}
+use Rattle.opus_format.specs.Frames.{total}
 use Rattle.opus_format.specs.Dirt.{dirtyPacket}
-use Rattle.packet_numbers.specs.Numbers.{keptWell}
-use Rattle.repacketizer.specs.declared.OpusRepacketizer.{OpusRepacketizer}
+use Rattle.collector.specs.declared.OpusRepacketizer.{OpusRepacketizer}
+use Rattle.collector.specs.declared.Head.{Head}
+use Rattle.collector.specs.Collector.{heldLengths, leastStore, sound}
+use Rattle.collector.specs.Parts.{collectorOf}
 use Rattle.repacketizer.specs.declared.Added.{Added}
-use Rattle.repacketizer.specs.declared.Measured.{Measured}
-use Rattle.repacketizer.specs.declared.Head.{Head}
-use Rattle.repacketizer.specs.declared.Checked.{Checked}
 use Rattle.repacketizer.specs.declared.AddedHead.{AddedHead}
-use Rattle.repacketizer.specs.Collector.{heldLengths, sound}
 use Rattle.repacketizer.specs.Adding.{Adding, Addition, goesWith, staysOut, refusal, takes, leavesAdd, packetAdds, unlessDirty}
 
--- one pass over lengths
-abbrev pub measured : List ℕ → Measured
-measured ns = record { longest = longest ns; total = total ns % 65536 }
-
--- a collector without its lengths and numbers
-abbrev pub headOf : OpusRepacketizer → Head
-headOf rp = record { toc = rp .toc; «nb_frames» = rp .«nb_frames»; framesize = rp .framesize }
-
--- the collector with this head, these lengths and these numbers
-abbrev pub collectorOf : Head → List ℕ → List ℕ → OpusRepacketizer
-collectorOf h len packet = record { toc = h .toc; «nb_frames» = h .«nb_frames»; framesize = h .framesize; len = len; packet = packet }
-
--- the same with the numbers left aside, where they are not looked at
-abbrev pub bare : Head → List ℕ → OpusRepacketizer
-bare h len = collectorOf h len []
-
-abbrev pub unsoundly : Checked
-unsoundly = record { sound = false; total = 0 }
-
--- the frame size is the TOC's at 8 kHz, and the frames last at most 120 ms
-abbrev pub headFits : Head → Bool
-headFits h = eqb (h .framesize .0) (samples 8000 (configuration (h .toc))) && leb (h .«nb_frames» * h .framesize .0) 960
-
--- lengths and numbers of frames: whether a sound collector can have them, and the sum of the lengths
-abbrev pub checkedHeld : List ℕ → List ℕ → Checked
-checkedHeld ns ks = record { sound = keptWell ns ks; total = cond (keptWell ns ks) (total ns) 0 }
-
-unfoldable pub checked : OpusRepacketizer → Checked
-checked rp = record { sound = sound rp; total = cond (sound rp) (total (heldLengths rp)) 0 }
+-- a sound collector with this head, these lengths and these numbers, whose frames end at a place, and a store that is long enough
+pub record ReadyAt (h : Head) (len packet : List ℕ) (at : ℕ) (store : List ℕ) : Type 0 where
+  pub lengths48 : length len ≡ 48
+  pub numbers48 : length packet ≡ 48
+  pub soundly : sound (collectorOf h len packet) ≡ true
+  pub place : at ≡ total (heldLengths (collectorOf h len packet))
+  pub roomy : leastStore ≤ length store
 
 abbrev pub refusedHead : Refusal → Head → AddedHead
 refusedHead e h = record { verdict = Refused e; toc = h .toc; framesize = h .framesize; count = h .«nb_frames» }
@@ -95,3 +72,7 @@ addedOf r len packet =
       verdict = r .verdict;
       rp = record { toc = r .toc; «nb_frames» = r .count; framesize = r .framesize; len = len; packet = packet };
     }
+
+-- what an add leaves: its answer with these lengths and numbers, and the store; its count fits the field
+abbrev pub Leaves : AddedHead → List ℕ → List ℕ → List ℕ → Adding → Type 0
+Leaves r len packet store a = (addedOf r len packet ≡ a .answer) × ((store ≡ a .store) × (r .count < 65536))

@@ -1,23 +1,22 @@
-// The collector, and adding packets to it (repacketizer.rs): by value, and as a head with its lengths and numbers lent.
+// Adding packets to a collector (repacketizer.rs): by value, and as a head with its lengths and numbers lent.
 pub mod strict;
 
 ghost use mathlib.Core.Path.{_≡_};
 ghost use mathlib.Core.List.{[], _∷_};
-ghost use mathlib.Core.Bool.{true, false};
-ghost use Prim.Native.Nat.{_+_, _<_, _≤_, max};
+ghost use mathlib.Core.Bool.{false};
+ghost use Prim.Native.Nat.{_+_, _<_, _≤_};
 ghost use lib.ListN.{length};
 ghost use lib.Seq.{sets};
-ghost use Rattle.opus_defines.specs.Numbers.{numberOf};
 ghost use Rattle.opus_size.specs.Size.{mostBytes};
 ghost use Rattle.opus_toc.specs.Toc.{upperSix};
 ghost use Rattle.opus_toc.specs.Answers.{nbFrames};
 ghost use Rattle.opus_format.specs.Reading.{lasts};
 ghost use Rattle.opus_format.specs.Frames.{total, longest};
-ghost use Rattle.repacketizer.specs.Collector.{empty, heldLengths, framed, sound, nbFramesHeld, leastStore};
+ghost use Rattle.collector.specs.Parts.{collectorOf, bare};
 ghost use Rattle.repacketizer.specs.Adding.{goesWith, saidFrames, staysOut, addPacket, added, addedBy};
-ghost use Rattle.repacketizer.specs.Parts.{measured, headOf, collectorOf, bare, unsoundly, headFits, checkedHeld, checked, refusedHead};
-ghost use Rattle.repacketizer.specs.Parts.{moreFrames};
-ghost use Rattle.repacketizer.specs.Parts.{addBlock, whyNot, addPacketBy, addedOf};
+ghost use Rattle.repacketizer.specs.Parts.{ReadyAt, Leaves, refusedHead, moreFrames, addBlock, whyNot, addPacketBy, addedOf};
+use collector::Head;
+use collector::OpusRepacketizer;
 use opus::Short;
 use opus_defines::Answer;
 use opus_defines::Refusal;
@@ -25,204 +24,10 @@ use opus_defines::Verdict;
 use opus_defines::wide;
 use opus_toc::Samples8k;
 
-// The least store, in bytes: 48 frames of 1275.
-pub const LEAST_STORE: usize = 61200;
-
-// Frames lie one behind another in a lent store; here are their lengths, the first packet's TOC byte and the frame size at 8 kHz, and of each frame the
-// number of the accepted packet that it came in, from 0 since the collector was last empty (document 02, M-107).
-#[repr(C)]
-pub struct OpusRepacketizer {
-    pub toc: u8,
-    pub nb_frames: u16,
-    pub framesize: Samples8k,
-    pub len: [u16; 48],
-    pub packet: [u8; 48],
-}
-
 // What an add answers: beside a refusal the collector is the one handed in.
 pub struct Added {
     pub verdict: Verdict,
     pub rp: OpusRepacketizer,
-}
-
-// An empty collector; a reset is the same.
-pub fn opus_repacketizer_init() -> OpusRepacketizer
-    ensures { λ r. ⌜ r ≡ empty ⌝ }
-{
-    OpusRepacketizer {
-        toc: 0,
-        nb_frames: 0,
-        framesize: Samples8k(0),
-        len: [0u16; 48],
-        packet: [0u8; 48],
-    }
-}
-
-// What one pass over lengths finds: the longest, and the sum modulo 65,536, which is the sum of lengths that a collector can hold.
-pub struct Measured {
-    pub longest: u16,
-    pub total: u16,
-}
-
-fn larger(a: u16, b: u16) -> u16
-    ensures { λ r. ⌜ r ≡ max a b ⌝ }
-{
-    if a < b { b } else { a }
-}
-
-// No test leaves the loop and all is counted in 16 bits, so that eight lengths or more are taken at a time.
-pub fn measure(ns: &[u16]) -> Measured
-    ensures { λ r. ⌜ r ≡ measured (now (ns .entry)) ⌝ }
-{
-    let mut most: u16 = 0;
-    let mut sum: u16 = 0;
-    let mut i: usize = 0;
-    while i < ns.len() {
-        most = larger(most, ns[i]);
-        sum = std::num::wrapping_add_u16(sum, ns[i]);
-        i += 1;
-    }
-    Measured {
-        longest: most,
-        total: sum,
-    }
-}
-
-// A collector without its lengths and numbers. They are lent beside it, since each struct that is passed would copy them.
-pub struct Head {
-    pub toc: u8,
-    pub nb_frames: u16,
-    pub framesize: Samples8k,
-}
-
-pub fn head_of(rp: OpusRepacketizer) -> Head
-    ensures { λ r. ⌜ r ≡ headOf rp ⌝ }
-{
-    let framesize = rp.framesize;
-    Head {
-        toc: rp.toc,
-        nb_frames: rp.nb_frames,
-        framesize,
-    }
-}
-
-// Whether a collector is sound, and the bytes of the frames held; 0 of one that is not.
-pub struct Checked {
-    pub sound: bool,
-    pub total: usize,
-}
-
-fn unsound() -> Checked
-    ensures { λ r. ⌜ r ≡ unsoundly ⌝ }
-{
-    Checked {
-        sound: false,
-        total: 0,
-    }
-}
-
-// The frames' lengths and numbers.
-fn check_held(ns: &[u16], ks: &[u8]) -> Checked
-    requires { ⌜ (1 ≤ length (now ns)) × (length (now ns) ≤ 48) × (length (now ks) ≡ length (now ns)) ⌝ }
-    ensures { λ r. ⌜ r ≡ checkedHeld (now (ns .entry)) (now (ks .entry)) ⌝ }
-{
-    let m = packet_numbers::look(ns, ks);
-    if 1 < m.wrong {
-        return unsound();
-    }
-    Checked {
-        sound: true,
-        total: wide(m.total),
-    }
-}
-
-// Whether the frame size of a head is its TOC byte's and its frames last at most 120 ms.
-fn head_fits(h: Head) -> bool
-    ensures { λ r. ⌜ r ≡ headFits h ⌝ }
-{
-    let framesize = h.framesize;
-    let each = opus_toc::samples_8k(h.toc);
-    if framesize.0 != each.0 {
-        return false;
-    }
-    each.fits(h.nb_frames)
-}
-
-pub fn check(h: Head, len: &[u16], packet: &[u8]) -> Checked
-    requires { ⌜ (length (now len) ≡ 48) × (length (now packet) ≡ 48) ⌝ }
-    ensures { λ r. ⌜ r ≡ checked (collectorOf h (now (len .entry)) (now (packet .entry))) ⌝ }
-{
-    let n = wide(h.nb_frames);
-    if n == 0 {
-        return Checked {
-            sound: true,
-            total: 0,
-        };
-    }
-    if !head_fits(h) {
-        return unsound();
-    }
-    check_held(&len[..n], &packet[..n])
-}
-
-// The same for an add, which has much to look at once many frames are held: by words (packet_numbers). It is called from one place, and so compiled into it.
-fn check_words(h: Head, len: &[u16; 48], packet: &[u8; 48]) -> Checked
-    ensures { λ r. ⌜ r ≡ checked (collectorOf h (now (len .entry)) (now (packet .entry))) ⌝ }
-{
-    let n = wide(h.nb_frames);
-    if n == 0 {
-        return Checked {
-            sound: true,
-            total: 0,
-        };
-    }
-    if !head_fits(h) {
-        return unsound();
-    }
-    let t = packet_numbers::words::tell(len, packet, n);
-    if t == packet_numbers::words::NOT_SOUND {
-        return unsound();
-    }
-    Checked {
-        sound: true,
-        total: t,
-    }
-}
-
-// Whether a collector, however wild, is sound.
-pub fn is_sound(rp: OpusRepacketizer) -> bool
-    ensures { λ r. ⌜ r ≡ sound rp ⌝ }
-{
-    let len = rp.len;
-    let packet = rp.packet;
-    let c = check(head_of(rp), &len, &packet);
-    c.sound
-}
-
-// The frames held.
-fn nb_frames_held(h: Head, len: &[u16; 48], packet: &[u8; 48]) -> Answer
-    ensures { λ r. ⌜ r ≡ nbFramesHeld (collectorOf h (now (len .entry)) (now (packet .entry))) ⌝ }
-{
-    let c = check(h, len, packet);
-    if !c.sound {
-        return Answer::Refused(Refusal::InvalidState);
-    }
-    Answer::Number(h.nb_frames)
-}
-
-// The same as a number.
-pub fn nb_frames(h: Head, len: &[u16; 48], packet: &[u8; 48]) -> i32
-    ensures { λ r. ⌜ r ≡ numberOf (nbFramesHeld (collectorOf h (now (len .entry)) (now (packet .entry)))) ⌝ }
-{
-    opus_defines::number_of(nb_frames_held(h, len, packet))
-}
-
-pub fn opus_repacketizer_get_nb_frames(rp: OpusRepacketizer) -> i32
-    ensures { λ r. ⌜ r ≡ numberOf (nbFramesHeld rp) ⌝ }
-{
-    let len = rp.len;
-    let packet = rp.packet;
-    nb_frames(head_of(rp), &len, &packet)
 }
 
 // Whether n frames with this TOC byte go with those held, whatever the lengths.
@@ -364,22 +169,16 @@ fn add_block(
     first: usize,
     store: &mut [u8],
 ) -> AddedHead
-    requires collector { ⌜ (length (now len) ≡ 48) × (length (now packet) ≡ 48) × (sound (collectorOf h (now len) (now packet)) ≡ true)
-        × (at ≡ total (heldLengths (collectorOf h (now len) (now packet)))) × (leastStore ≤ length (now store)) ⌝ }
+    requires collector { ⌜ ReadyAt h (now len) (now packet) at (now store) ⌝ }
     requires frames { ⌜ (1 ≤ length (now ns)) × (length (now ns) ≤ 48)
         × (longest (now ns) ≤ mostBytes) × (first + total (now ns) ≤ length (now «data»)) ⌝ }
-    ensures answer { λ r. ⌜ addedOf r (now (len .exit)) (now (packet .exit))
-        ≡ addBlock (collectorOf h (now (len .entry)) (now (packet .entry))) toc (now (ns .entry)) (now («data» .entry)) first
-        (now (store .entry)) .answer ⌝ }
-    ensures bytes { λ _. ⌜ now (store .exit)
-        ≡ addBlock (collectorOf h (now (len .entry)) (now (packet .entry))) toc (now (ns .entry)) (now («data» .entry)) first
-        (now (store .entry)) .store ⌝ }
-    ensures few { λ r. ⌜ r .count < 65536 ⌝ }
+    ensures { λ r. ⌜ Leaves r (now (len .exit)) (now (packet .exit)) (now (store .exit))
+        (addBlock (collectorOf h (now (len .entry)) (now (packet .entry))) toc (now (ns .entry)) (now («data» .entry)) first (now (store .entry))) ⌝ }
 {
     if !goes_with(h, toc, ns.len() as u16) {
         return refused_add(Refusal::InvalidPacket, h);
     }
-    let m = measure(ns);
+    let m = collector::measure(ns);
     blocks::copy_into(store, at, data, first, wide(m.total));
     let place = wide(h.nb_frames);
     put_lengths(len, place, ns);
@@ -399,14 +198,10 @@ fn add_one(
     first: usize,
     store: &mut [u8],
 ) -> AddedHead
-    requires collector { ⌜ (length (now len) ≡ 48) × (length (now packet) ≡ 48) × (sound (collectorOf h (now len) (now packet)) ≡ true)
-        × (at ≡ total (heldLengths (collectorOf h (now len) (now packet)))) × (leastStore ≤ length (now store)) ⌝ }
+    requires collector { ⌜ ReadyAt h (now len) (now packet) at (now store) ⌝ }
     requires frames { ⌜ (longest (n ∷ []) ≤ mostBytes) × (first + total (n ∷ []) ≤ length (now «data»)) ⌝ }
-    ensures answer { λ r. ⌜ addedOf r (now (len .exit)) (now (packet .exit))
-        ≡ addBlock (collectorOf h (now (len .entry)) (now (packet .entry))) toc (n ∷ []) (now («data» .entry)) first (now (store .entry)) .answer ⌝ }
-    ensures bytes { λ _. ⌜ now (store .exit)
-        ≡ addBlock (collectorOf h (now (len .entry)) (now (packet .entry))) toc (n ∷ []) (now («data» .entry)) first (now (store .entry)) .store ⌝ }
-    ensures few { λ r. ⌜ r .count < 65536 ⌝ }
+    ensures { λ r. ⌜ Leaves r (now (len .exit)) (now (packet .exit)) (now (store .exit))
+        (addBlock (collectorOf h (now (len .entry)) (now (packet .entry))) toc (n ∷ []) (now («data» .entry)) first (now (store .entry))) ⌝ }
 {
     if !goes_with(h, toc, 1) {
         return refused_add(Refusal::InvalidPacket, h);
@@ -431,16 +226,10 @@ fn add_two(
     first: usize,
     store: &mut [u8],
 ) -> AddedHead
-    requires collector { ⌜ (length (now len) ≡ 48) × (length (now packet) ≡ 48) × (sound (collectorOf h (now len) (now packet)) ≡ true)
-        × (at ≡ total (heldLengths (collectorOf h (now len) (now packet)))) × (leastStore ≤ length (now store)) ⌝ }
+    requires collector { ⌜ ReadyAt h (now len) (now packet) at (now store) ⌝ }
     requires frames { ⌜ (longest (m ∷ n ∷ []) ≤ mostBytes) × (first + total (m ∷ n ∷ []) ≤ length (now «data»)) ⌝ }
-    ensures answer { λ r. ⌜ addedOf r (now (len .exit)) (now (packet .exit))
-        ≡ addBlock (collectorOf h (now (len .entry)) (now (packet .entry))) toc (m ∷ n ∷ []) (now («data» .entry)) first
-        (now (store .entry)) .answer ⌝ }
-    ensures bytes { λ _. ⌜ now (store .exit)
-        ≡ addBlock (collectorOf h (now (len .entry)) (now (packet .entry))) toc (m ∷ n ∷ []) (now («data» .entry)) first
-        (now (store .entry)) .store ⌝ }
-    ensures few { λ r. ⌜ r .count < 65536 ⌝ }
+    ensures { λ r. ⌜ Leaves r (now (len .exit)) (now (packet .exit)) (now (store .exit))
+        (addBlock (collectorOf h (now (len .entry)) (now (packet .entry))) toc (m ∷ n ∷ []) (now («data» .entry)) first (now (store .entry))) ⌝ }
 {
     if !goes_with(h, toc, 2) {
         return refused_add(Refusal::InvalidPacket, h);
@@ -463,13 +252,9 @@ fn add_read(
     self_delimited: bool,
     store: &mut [u8],
 ) -> AddedHead
-    requires { ⌜ (length (now len) ≡ 48) × (length (now packet) ≡ 48) × (sound (collectorOf h (now len) (now packet)) ≡ true)
-        × (at ≡ total (heldLengths (collectorOf h (now len) (now packet)))) × (leastStore ≤ length (now store)) ⌝ }
-    ensures answer { λ r. ⌜ addedOf r (now (len .exit)) (now (packet .exit))
-        ≡ addPacket «self_delimited» (collectorOf h (now (len .entry)) (now (packet .entry))) (now («data» .entry)) (now (store .entry)) .answer ⌝ }
-    ensures bytes { λ _. ⌜ now (store .exit)
-        ≡ addPacket «self_delimited» (collectorOf h (now (len .entry)) (now (packet .entry))) (now («data» .entry)) (now (store .entry)) .store ⌝ }
-    ensures few { λ r. ⌜ r .count < 65536 ⌝ }
+    requires { ⌜ ReadyAt h (now len) (now packet) at (now store) ⌝ }
+    ensures { λ r. ⌜ Leaves r (now (len .exit)) (now (packet .exit)) (now (store .exit))
+        (addPacket «self_delimited» (collectorOf h (now (len .entry)) (now (packet .entry))) (now («data» .entry)) (now (store .entry))) ⌝ }
 {
     if opus::MOST_PACKET < data.len() {
         return refused_add(Refusal::BadArg, h);
@@ -496,15 +281,9 @@ fn add_by(
     strict: bool,
     store: &mut [u8],
 ) -> AddedHead
-    requires { ⌜ (length (now len) ≡ 48) × (length (now packet) ≡ 48) × (sound (collectorOf h (now len) (now packet)) ≡ true)
-        × (at ≡ total (heldLengths (collectorOf h (now len) (now packet)))) × (leastStore ≤ length (now store)) ⌝ }
-    ensures answer { λ r. ⌜ addedOf r (now (len .exit)) (now (packet .exit))
-        ≡ addPacketBy strict «self_delimited» (collectorOf h (now (len .entry)) (now (packet .entry))) (now («data» .entry)) (now (store .entry))
-        .answer ⌝ }
-    ensures bytes { λ _. ⌜ now (store .exit)
-        ≡ addPacketBy strict «self_delimited» (collectorOf h (now (len .entry)) (now (packet .entry))) (now («data» .entry)) (now (store .entry))
-        .store ⌝ }
-    ensures few { λ r. ⌜ r .count < 65536 ⌝ }
+    requires { ⌜ ReadyAt h (now len) (now packet) at (now store) ⌝ }
+    ensures { λ r. ⌜ Leaves r (now (len .exit)) (now (packet .exit)) (now (store .exit))
+        (addPacketBy strict «self_delimited» (collectorOf h (now (len .entry)) (now (packet .entry))) (now («data» .entry)) (now (store .entry))) ⌝ }
 {
     if strict::asks_dirt(strict, data, self_delimited) {
         return refused_add(strict::dirty_refusal(h, data), h);
@@ -524,15 +303,9 @@ fn add_packet(
     strict: bool,
     store: &mut [u8],
 ) -> AddedHead
-    requires { ⌜ (length (now len) ≡ 48) × (length (now packet) ≡ 48) × (sound (collectorOf h (now len) (now packet)) ≡ true)
-        × (at ≡ total (heldLengths (collectorOf h (now len) (now packet)))) × (leastStore ≤ length (now store)) ⌝ }
-    ensures answer { λ r. ⌜ addedOf r (now (len .exit)) (now (packet .exit))
-        ≡ addPacketBy strict «self_delimited» (collectorOf h (now (len .entry)) (now (packet .entry))) (now («data» .entry)) (now (store .entry))
-        .answer ⌝ }
-    ensures bytes { λ _. ⌜ now (store .exit)
-        ≡ addPacketBy strict «self_delimited» (collectorOf h (now (len .entry)) (now (packet .entry))) (now («data» .entry)) (now (store .entry))
-        .store ⌝ }
-    ensures few { λ r. ⌜ r .count < 65536 ⌝ }
+    requires { ⌜ ReadyAt h (now len) (now packet) at (now store) ⌝ }
+    ensures { λ r. ⌜ Leaves r (now (len .exit)) (now (packet .exit)) (now (store .exit))
+        (addPacketBy strict «self_delimited» (collectorOf h (now (len .entry)) (now (packet .entry))) (now («data» .entry)) (now (store .entry))) ⌝ }
 {
     if self_delimited {
         return add_by(h, len, packet, at, data, true, strict, store);
@@ -562,11 +335,11 @@ pub fn add(
         ≡ addedBy strict «self_delimited» (collectorOf h (now (len .entry)) (now (packet .entry))) (now («data» .entry)) (now (store .entry)) .store ⌝ }
     ensures few { λ r. ⌜ r .count < 65536 ⌝ }
 {
-    let c = check_words(h, len, packet);
+    let c = collector::check_words(h, len, packet);
     if !c.sound {
         return refused_add(Refusal::InvalidState, h);
     }
-    if store.len() < LEAST_STORE {
+    if store.len() < collector::LEAST_STORE {
         return refused_add(Refusal::BadArg, h);
     }
     add_packet(h, len, packet, c.total, data, self_delimited, strict, store)
@@ -586,7 +359,7 @@ fn opus_repacketizer_cat_impl(
     let mut len = rp.len;
     let mut packet = rp.packet;
     let a = add(
-        head_of(rp),
+        collector::head_of(rp),
         &mut len,
         &mut packet,
         data,

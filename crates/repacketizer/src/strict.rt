@@ -3,13 +3,14 @@ ghost use mathlib.Core.Path.{_≡_};
 ghost use mathlib.Core.List.{[]};
 ghost use mathlib.Core.Bool.{false, _&&_};
 ghost use Prim.Native.Nat.{_≤_};
+ghost use Rattle.collector.specs.Parts.{bare};
 ghost use Rattle.repacketizer.specs.Adding.{addedStrictly};
-ghost use Rattle.repacketizer.specs.Parts.{bare, hasDirt, whyDirty};
+ghost use Rattle.repacketizer.specs.Parts.{hasDirt, whyDirty};
 use crate::Added;
-use crate::Head;
-use crate::OpusRepacketizer;
 use crate::opus_repacketizer_cat_impl;
 use crate::stays_out;
+use collector::Head;
+use collector::OpusRepacketizer;
 use opus_defines::Refusal;
 
 // Whether a packet of at most 65,535 bytes has dirty padding. A longer one is left to the ordinary add, which refuses it.

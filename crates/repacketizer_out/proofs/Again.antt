@@ -32,12 +32,12 @@ use Rattle.opus_header.specs.Compact.{compact}
 use Rattle.opus_format.specs.Dirt.{dirtyPacket}
 use Rattle.opus_format.proofs.Dirt.{spelled-dirt}
 use Rattle.opus_header.proofs.Spelled.{compact-spelled, compact-unpadded}
-use Rattle.repacketizer.specs.Collector.{held, heldLengths}
+use Rattle.collector.specs.Collector.{held, heldLengths}
 use Rattle.repacketizer.specs.Adding.{Adding, goesWith, withFrames}
 use Rattle.repacketizer.specs.Runs.{State, Ready, Empty, Holds, Arrival, AllAccepted, adding, afterAdd, afterAdds}
 use Rattle.opus_format.proofs.Lengths.{longest-append}
-use Rattle.repacketizer.proofs.Sound.{lasts-timed, sound-framed, framed-full}
-use Rattle.repacketizer.proofs.Held.{Holding}
+use Rattle.collector.proofs.Sound.{lasts-timed, sound-framed, framed-full}
+use Rattle.collector.proofs.Held.{Holding}
 use Rattle.repacketizer.proofs.Adds.{goes-none, goes-time, taken, add-sound, add-read, block-added}
 use Rattle.repacketizer.proofs.StrictAdds.{by-clean}
 use Rattle.repacketizer.proofs.Steps.{add-ready, add-held}

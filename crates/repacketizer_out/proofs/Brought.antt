@@ -22,7 +22,7 @@ use Rattle.opus_format.specs.Frames.{cut}
 use Rattle.opus_format.specs.Reading.{framesOf}
 use Rattle.opus_format.proofs.Frames.{lengths-cut}
 use Rattle.opus_format.proofs.Facts.{facts}
-use Rattle.repacketizer.specs.Collector.{held, heldNumbers, leastStore}
+use Rattle.collector.specs.Collector.{held, heldNumbers, leastStore}
 use Rattle.repacketizer.specs.Runs.{State, Ready, Arrival, framesIn, framesOfAll, blocks}
 use Rattle.repacketizer.proofs.Runs.{Came, AllCame}
 use Rattle.repacketizer_out.specs.Output.{output}

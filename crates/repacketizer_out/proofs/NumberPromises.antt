@@ -12,8 +12,8 @@ use Rattle.opus_defines.specs.Outcome.{Outcome, leaves, refuses}
 use Rattle.opus_defines.specs.declared.Refusal.the-variants.{BadArg, InvalidState}
 use Rattle.opus_defines.proofs.Outcomes.{refusal-keeps}
 use Rattle.opus_toc.specs.Toc.{upperSix}
-use Rattle.repacketizer.specs.declared.OpusRepacketizer.{OpusRepacketizer}
-use Rattle.repacketizer.specs.Collector.{leastStore, sound}
+use Rattle.collector.specs.declared.OpusRepacketizer.{OpusRepacketizer}
+use Rattle.collector.specs.Collector.{leastStore, sound}
 use Rattle.repacketizer.specs.Runs.{State, Ready, Empty, Arrival, AllBytes, afterAdds, framesIn, acceptedOf}
 use Rattle.repacketizer.proofs.Runs.{AllCame, accepted-came}
 use Rattle.repacketizer.proofs.Promises.{collector-stays-sound, six-bits-are-kept, numbers-are-blocks, frames-of-the-accepted}

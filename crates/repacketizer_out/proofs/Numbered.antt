@@ -26,10 +26,10 @@ use Rattle.opus_defines.specs.Numbers.{countOf}
 use Rattle.opus_defines.specs.declared.Count.the-variants.{Negative}
 use Rattle.opus_toc.specs.Toc.{upperSix}
 use Rattle.packet_numbers.specs.Numbers.{steps, numbered}
-use Rattle.repacketizer.specs.declared.OpusRepacketizer.{OpusRepacketizer}
-use Rattle.repacketizer.specs.Collector.{held, leastStore, sound}
-use Rattle.repacketizer.proofs.Sound.{sound-framed, sound-numbered}
-use Rattle.repacketizer.proofs.Held.{holding}
+use Rattle.collector.specs.declared.OpusRepacketizer.{OpusRepacketizer}
+use Rattle.collector.specs.Collector.{held, leastStore, sound}
+use Rattle.collector.proofs.Sound.{sound-framed, sound-numbered}
+use Rattle.collector.proofs.Held.{holding}
 use Rattle.repacketizer_out.specs.declared.by_number.Range.{Range}
 use Rattle.repacketizer_out.specs.Output.{range, output, outFrames, outRange}
 use Rattle.repacketizer_out.specs.Numbered.{broughtBy, outputSome, outputOf, outNumbered, oneIf, below, noRange, rangeIn, rangeOf}

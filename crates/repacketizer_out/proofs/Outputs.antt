@@ -29,10 +29,10 @@ use Rattle.opus_format.specs.Frames.{cut, total}
 use Rattle.blocks.proofs.Sets.{take-sets}
 use Rattle.opus_header.specs.Compact.{compact, filling}
 use Rattle.opus_header.proofs.Filling.{filling-length}
-use Rattle.repacketizer.specs.declared.OpusRepacketizer.{OpusRepacketizer}
-use Rattle.repacketizer.specs.Collector.{held, leastStore, sound}
+use Rattle.collector.specs.declared.OpusRepacketizer.{OpusRepacketizer}
+use Rattle.collector.specs.Collector.{held, leastStore, sound}
+use Rattle.collector.proofs.Held.{Holding}
 use Rattle.repacketizer.specs.Runs.{State, Ready}
-use Rattle.repacketizer.proofs.Held.{Holding}
 use Rattle.repacketizer_out.specs.Output.{range, outPacket, output, outFrames, outRange}
 use Rattle.repacketizer_out.proofs.Ranges.{part-of, length-held}
 

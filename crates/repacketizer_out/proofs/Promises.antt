@@ -19,8 +19,8 @@ use Rattle.opus_format.specs.Dirt.{dirtyPacket}
 use Rattle.opus_format.proofs.Dirt.{spelled-dirt, dirty-zeros}
 use Rattle.opus_header.proofs.Spelled.{compact-spelled, compact-unpadded}
 use Rattle.opus_header.proofs.Filling.{filling-spelled, filling-zeros}
-use Rattle.repacketizer.specs.declared.OpusRepacketizer.{OpusRepacketizer}
-use Rattle.repacketizer.specs.Collector.{held, sound}
+use Rattle.collector.specs.declared.OpusRepacketizer.{OpusRepacketizer}
+use Rattle.collector.specs.Collector.{held, sound}
 use Rattle.repacketizer.specs.Runs.{State, Ready, Empty, Holds, Arrival, AllBytes, AllAccepted, afterAdds, framesAccepted}
 use Rattle.repacketizer.proofs.Runs.{runs-bytes}
 use Rattle.repacketizer.proofs.Promises.{frames-are-kept, collector-stays-sound}

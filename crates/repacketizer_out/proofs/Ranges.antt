@@ -17,13 +17,13 @@ use Rattle.opus_format.specs.Frames.{lengths, cut, total, longest}
 use Rattle.opus_format.specs.Format.{Lasts}
 use Rattle.opus_format.proofs.Frames.{lengths-cut}
 use Rattle.opus_format.proofs.Lengths.{longest-take}
-use Rattle.repacketizer.specs.declared.OpusRepacketizer.{OpusRepacketizer}
-use Rattle.repacketizer.specs.declared.Measured.{Measured}
-use Rattle.repacketizer.specs.Collector.{held, heldLengths, leastStore}
-use Rattle.repacketizer.specs.Parts.{measured}
+use Rattle.collector.specs.declared.OpusRepacketizer.{OpusRepacketizer}
+use Rattle.collector.specs.declared.Measured.{Measured}
+use Rattle.collector.specs.Collector.{held, heldLengths, leastStore}
+use Rattle.collector.specs.Parts.{measured}
+use Rattle.collector.proofs.Sound.{sound-framed}
+use Rattle.collector.proofs.Held.{Holding, holding}
 use Rattle.repacketizer.specs.Runs.{State, Ready}
-use Rattle.repacketizer.proofs.Sound.{sound-framed}
-use Rattle.repacketizer.proofs.Held.{Holding, holding}
 use Rattle.repacketizer_out.specs.Output.{range}
 
 -- ---- ranges of a list

@@ -9,8 +9,8 @@ use Rattle.opus_defines.specs.Bounds.{mostPacket}
 use Rattle.opus_defines.specs.Outcome.{Effect, refusal, Outcome, leaves}
 use Rattle.opus_defines.specs.declared.Refusal.the-variants.{BadArg, InvalidState}
 use Rattle.opus_toc.specs.Toc.{upperSix}
-use Rattle.repacketizer.specs.declared.OpusRepacketizer.{OpusRepacketizer}
-use Rattle.repacketizer.specs.Collector.{held, heldNumbers, leastStore, sound}
+use Rattle.collector.specs.declared.OpusRepacketizer.{OpusRepacketizer}
+use Rattle.collector.specs.Collector.{held, heldNumbers, leastStore, sound}
 use Rattle.repacketizer_out.specs.declared.by_number.Range.{Range}
 use Rattle.repacketizer_out.specs.Output.{output}
 

@@ -10,8 +10,8 @@ use Rattle.opus_defines.specs.Outcome.{Effect, refusal, written, Outcome, leave
 use Rattle.opus_defines.specs.declared.Refusal.the-variants.{BadArg, BufferTooSmall, InvalidState}
 use Rattle.opus_toc.specs.Toc.{upperSix}
 use Rattle.opus_header.specs.Compact.{compact, filling}
-use Rattle.repacketizer.specs.declared.OpusRepacketizer.{OpusRepacketizer}
-use Rattle.repacketizer.specs.Collector.{held, leastStore, sound}
+use Rattle.collector.specs.declared.OpusRepacketizer.{OpusRepacketizer}
+use Rattle.collector.specs.Collector.{held, leastStore, sound}
 
 -- frames begin to end - 1
 abbrev pub range : {A : Type 0} → ℕ → ℕ → List A → List A

@@ -4,9 +4,9 @@ ghost use Prim.Native.Nat.{_<_, _≤_};
 ghost use lib.ListN.{length, take};
 ghost use Rattle.repacketizer_out.specs.Numbered.{oneIf, below, noRange, rangeIn, rangeOf, outNumbered};
 use crate::opus_repacketizer_out_range;
+use collector::OpusRepacketizer;
 use opus_defines::Count;
 use opus_defines::wide;
-use repacketizer::OpusRepacketizer;
 
 // A range of frames, as an output takes it: 0 and 0 where there is none.
 pub struct Range {

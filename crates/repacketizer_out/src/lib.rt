@@ -15,17 +15,17 @@ ghost use Rattle.opus_toc.specs.Toc.{upperSix};
 ghost use Rattle.opus_format.specs.Frames.{cut, total, longest};
 ghost use Rattle.blocks.specs.Blocks.{part};
 ghost use Rattle.opus_header.specs.Sums.{sumsOf, headerOf};
-ghost use Rattle.repacketizer.specs.Collector.{held, leastStore, framed};
-ghost use Rattle.repacketizer.specs.Parts.{collectorOf, bare};
+ghost use Rattle.collector.specs.Collector.{held, leastStore, framed};
+ghost use Rattle.collector.specs.Parts.{collectorOf, bare};
 ghost use Rattle.repacketizer_out.specs.Output.{output, outFrames, outRange, outAll};
+use collector::Head;
+use collector::OpusRepacketizer;
 use opus_defines::Answer;
 use opus_defines::Count;
 use opus_defines::Refusal;
 use opus_defines::wide;
 use opus_header::Form;
 use opus_header::Sums;
-use repacketizer::Head;
-use repacketizer::OpusRepacketizer;
 
 // The header of a packet and its frames, which stand in `store` from a place on: one header, one block.
 fn put_packet(
@@ -117,7 +117,7 @@ fn out_frames(
     if n < end {
         return Answer::Refused(Refusal::BadArg);
     }
-    let before = repacketizer::measure(&len[..begin]);
+    let before = collector::measure(&len[..begin]);
     put_frames(
         &len[begin..end],
         h.toc,
@@ -148,11 +148,11 @@ fn out_answer(
         ≡ outRange «self_delimited» pad (collectorOf h (now (len .entry)) (now (packet .entry)))
         (now (store .entry)) begin end (now («data» .entry)) .bytes ⌝ }
 {
-    let c = repacketizer::check(h, len, packet);
+    let c = collector::check(h, len, packet);
     if !c.sound {
         return Answer::Refused(Refusal::InvalidState);
     }
-    if store.len() < repacketizer::LEAST_STORE {
+    if store.len() < collector::LEAST_STORE {
         return Answer::Refused(Refusal::BadArg);
     }
     if opus::MOST_PACKET < data.len() {
@@ -212,7 +212,7 @@ pub fn opus_repacketizer_out_range_impl(
     ensures number { λ r. ⌜ r ≡ outRange «self_delimited» pad rp (now (store .entry)) begin end (now («data» .entry)) .report .number ⌝ }
     ensures bytes { λ _. ⌜ now («data» .exit) ≡ outRange «self_delimited» pad rp (now (store .entry)) begin end (now («data» .entry)) .bytes ⌝ }
 {
-    let h = repacketizer::head_of(rp);
+    let h = collector::head_of(rp);
     let len = rp.len;
     let packet = rp.packet;
     out_lent(

@@ -1,6 +1,6 @@
 // Kinds 2, 17 and 18 of the replay protocol: an empty collector, adds, and an output; any collector, and adds with rule and place, each ordinary or strict
 // in kind 18.
-use repacketizer::OpusRepacketizer;
+use collector::OpusRepacketizer;
 use replay_io::input::Cursor;
 use replay_io::input::Line;
 use replay_io::output::buffer;
@@ -28,7 +28,7 @@ fn collected(
     work: &mut [u8],
 ) -> usize {
     let a = text(out, at, b"; ");
-    let b = number(out, a, repacketizer::opus_repacketizer_get_nb_frames(rp));
+    let b = number(out, a, collector::opus_repacketizer_get_nb_frames(rp));
     let c = text(out, b, b" ; ");
     let d = number(out, c, out_range(rp, store, o, work));
     let e = text(out, d, b" ; ");

@@ -1,6 +1,6 @@
 // Kinds 19 and 20 of the replay protocol, on collectors with packet numbers: adds, strict or ordinary, and the output of a packet by its number; the frames
 // held, an output of a range, and an add.
-use repacketizer::OpusRepacketizer;
+use collector::OpusRepacketizer;
 use repacketizer_out::by_number::opus_repacketizer_out_packet;
 use replay_io::input::Cursor;
 use replay_io::input::Line;
@@ -133,7 +133,7 @@ fn range_told(
     if store.len() < size {
         return at;
     }
-    let a = number(out, at, repacketizer::opus_repacketizer_get_nb_frames(rp));
+    let a = number(out, at, collector::opus_repacketizer_get_nb_frames(rp));
     let b = text(out, a, b" ; ");
     let n = out_range(rp, &store[0..size], o, work);
     let c = number_and_buffer(out, b, n, work, o.room);

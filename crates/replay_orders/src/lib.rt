@@ -1,9 +1,9 @@
 // Kind 21 of the replay protocol: a list of cut orders on a collector, into one destination.
 ghost use Prim.Native.Nat.{_≤_};
+use collector::Head;
+use collector::OpusRepacketizer;
 use cut_orders::Order;
 use cut_orders::OrderReport;
-use repacketizer::Head;
-use repacketizer::OpusRepacketizer;
 use replay_io::input::ByteAt;
 use replay_io::input::Cursor;
 use replay_io::input::Line;
@@ -171,7 +171,7 @@ fn many(rp: OpusRepacketizer, store: &[u8], o: Wanted, work: &mut [u8]) -> Answe
         };
     }
     unset(work, room);
-    let h = repacketizer::head_of(rp);
+    let h = collector::head_of(rp);
     let len = rp.len;
     let packet = rp.packet;
     let n = o.n as usize;

@@ -1,9 +1,9 @@
 // Adds to a collector, as many as a case has.
 use crate::state::State;
 use crate::state::collector_and_store;
+use collector::OpusRepacketizer;
 use opus_defines::Verdict;
 use repacketizer::Added;
-use repacketizer::OpusRepacketizer;
 use replay_io::input::ByteAt;
 use replay_io::input::Cursor;
 use replay_io::input::Line;
@@ -36,8 +36,8 @@ pub fn from_empty(c: Cursor, at: usize) -> Adding {
         end: c.end,
         came: c.came,
         out: at,
-        rp: repacketizer::opus_repacketizer_init(),
-        store: repacketizer::LEAST_STORE,
+        rp: collector::opus_repacketizer_init(),
+        store: collector::LEAST_STORE,
         places: false,
         kinds: false,
     }

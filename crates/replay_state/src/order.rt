@@ -1,5 +1,5 @@
 // The output of a range of the frames held, as a case asks for it.
-use repacketizer::OpusRepacketizer;
+use collector::OpusRepacketizer;
 use replay_io::input::ByteAt;
 use replay_io::input::Cursor;
 use replay_io::input::NumberAt;

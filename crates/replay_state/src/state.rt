@@ -1,6 +1,6 @@
 // A collector that need not be sound, and its store: read from a case, and put behind its line.
+use collector::OpusRepacketizer;
 use opus_toc::Samples8k;
-use repacketizer::OpusRepacketizer;
 use replay_io::input::ByteAt;
 use replay_io::input::Cursor;
 use replay_io::input::NumberAt;
@@ -33,7 +33,7 @@ fn no_state() -> State {
         next: 0,
         end: 0,
         came: 0,
-        rp: repacketizer::opus_repacketizer_init(),
+        rp: collector::opus_repacketizer_init(),
         store: 0,
     }
 }

@@ -4,10 +4,10 @@ use mathlib.Core.Path.{_≡_, sym, ap, _∙_}
 use mathlib.Core.Bool.{true}
 use borrow.Author.Needs.{needs}
 use borrow.Author.Tests.{not-true, not-false}
-use Rattle.repacketizer.specs.declared.OpusRepacketizer.{OpusRepacketizer}
-use Rattle.repacketizer.specs.Collector.{sound}
-use Rattle.repacketizer.specs.Parts.{collectorOf}
-use Rattle.repacketizer.proofs.Checks.{checked-sound}
+use Rattle.collector.specs.declared.OpusRepacketizer.{OpusRepacketizer}
+use Rattle.collector.specs.Collector.{sound}
+use Rattle.collector.specs.Parts.{collectorOf}
+use Rattle.collector.proofs.Checks.{checked-sound}
 use Rattle.cut_orders.specs.Orders.{orderReport}
 use Rattle.cut_orders.proofs.Reports.{begun-unsound, begun-tight, begun-long, begun-crowded, begun-ready}
 use Rattle.cut_orders.proofs.guard.Statement.{statement}

@@ -8,9 +8,9 @@ use lib.IntN.{pos}
 use Rattle.opus_defines.proofs.Counts.{counted, is-natural}
 use Rattle.opus_toc.specs.Toc.{upperSix}
 use Rattle.opus_header.proofs.Forms.{sums-few}
-use Rattle.repacketizer.specs.Collector.{held}
-use Rattle.repacketizer.specs.Parts.{bare}
-use Rattle.repacketizer.proofs.Held.{Holding, holding}
+use Rattle.collector.specs.Collector.{held}
+use Rattle.collector.specs.Parts.{bare}
+use Rattle.collector.proofs.Held.{Holding, holding}
 use Rattle.repacketizer_out.specs.Output.{range}
 use Rattle.repacketizer_out.proofs.Ranges.{Part, part-of}
 use Rattle.cut_orders.proofs.Effects.{effect-before, effect-under, effect-none, held-past, need-short, need-fits}

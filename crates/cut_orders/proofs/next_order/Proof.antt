@@ -8,8 +8,8 @@ use borrow.Author.Needs.{needs, sfits-of}
 use lib.IntN.{pos}
 use Rattle.opus_defines.proofs.Counts.{counted, is-natural}
 use Rattle.opus_toc.specs.Toc.{upperSix}
-use Rattle.repacketizer.specs.Collector.{held}
-use Rattle.repacketizer.specs.Parts.{bare}
+use Rattle.collector.specs.Collector.{held}
+use Rattle.collector.specs.Parts.{bare}
 use Rattle.cut_orders.proofs.Effects.{effect-passed}
 use Rattle.cut_orders.proofs.Nexts.{next-refused, next-stops, next-goes, natural-most, number-most}
 use Rattle.cut_orders.proofs.next_order.Statement.{statement}

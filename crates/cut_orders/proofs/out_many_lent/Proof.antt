@@ -45,9 +45,9 @@ use denote.Triple.Statement.{Triple}
 use denote.Triple.Table.{cited}
 use denote.Triple.Walked.{says, Stays, stay-slice, stay-dropped, walkOf, goes-slice, goes-dropped, ends-at}
 use denote.Exit.{yes}
-use Rattle.repacketizer.specs.declared.Head.{Head}
-use Rattle.repacketizer.proofs.Head as D
-use Rattle.repacketizer.proofs.Head.Laws as D′
+use Rattle.collector.specs.declared.Head.{Head}
+use Rattle.collector.proofs.Head as D
+use Rattle.collector.proofs.Head.Laws as D′
 use Rattle.cut_orders.specs.declared.Order.{Order}
 use Rattle.cut_orders.specs.declared.OrderReport.{OrderReport}
 use Rattle.cut_orders.specs.Orders.{Cutting, orderReport}

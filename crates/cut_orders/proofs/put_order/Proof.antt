@@ -6,9 +6,9 @@ use native.Mathlib.Omega.{arith}
 use borrow.Author.Needs.{needs}
 use lib.ListN.{length}
 use Rattle.opus_toc.specs.Toc.{upperSix}
-use Rattle.repacketizer.specs.Collector.{held}
-use Rattle.repacketizer.specs.Parts.{bare}
-use Rattle.repacketizer.proofs.Held.{Holding, holding}
+use Rattle.collector.specs.Collector.{held}
+use Rattle.collector.specs.Parts.{bare}
+use Rattle.collector.proofs.Held.{Holding, holding}
 use Rattle.repacketizer_out.proofs.Ranges.{length-held}
 use Rattle.cut_orders.proofs.Puts.{Taken, taken, passed-fits, passed-range, passed-room, put-part, put-fits}
 use Rattle.cut_orders.proofs.put_order.Statement.{statement}

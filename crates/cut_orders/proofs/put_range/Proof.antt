@@ -8,8 +8,8 @@ use lib.ListN.{take}
 use lib.Seq.{length-take-le}
 use Rattle.opus_toc.specs.Toc.{upperSix}
 use Rattle.opus_format.specs.Frames.{total}
-use Rattle.repacketizer.specs.Parts.{bare}
-use Rattle.repacketizer.proofs.Held.{Holding, holding}
+use Rattle.collector.specs.Parts.{bare}
+use Rattle.collector.proofs.Held.{Holding, holding}
 use Rattle.repacketizer_out.proofs.Ranges.{Part, part-of, part-from}
 use Rattle.cut_orders.proofs.Puts.{range-room, range-put}
 use Rattle.cut_orders.proofs.put_range.Statement.{statement}

@@ -5,10 +5,10 @@ use mathlib.Core.Bool.{true}
 use lib.ListN.{length}
 use borrow.Author.Needs.{needs}
 use borrow.Author.Tests.{not-true, not-false}
-use Rattle.repacketizer.specs.declared.OpusRepacketizer.{OpusRepacketizer}
-use Rattle.repacketizer.specs.Collector.{sound}
-use Rattle.repacketizer.specs.Parts.{collectorOf}
-use Rattle.repacketizer.proofs.Checks.{checked-sound, checked-total}
+use Rattle.collector.specs.declared.OpusRepacketizer.{OpusRepacketizer}
+use Rattle.collector.specs.Collector.{sound}
+use Rattle.collector.specs.Parts.{collectorOf}
+use Rattle.collector.proofs.Checks.{checked-sound, checked-total}
 use Rattle.repacketizer.proofs.Adds.{refused-as}
 use Rattle.repacketizer.proofs.StrictAdds.{by-unsound, by-tight, by-sound}
 use Rattle.repacketizer.proofs.add.Statement.{statement}
@@ -51,7 +51,13 @@ add-packet-requires c κs =
     let s = entry k in
     let l : length (s .args .len .now) ≡ 48 = search needs in
     let p : length (s .args .packet .now) ≡ 48 = search needs in
-    (l, p, is i, checked-total (taken k) (k .check-words .result) (k .check-words .ensures) (is i), t .if2 .left)
+    record {
+      lengths48 = l;
+      numbers48 = p;
+      soundly = is i;
+      place = checked-total (taken k) (k .check-words .result) (k .check-words .ensures) (is i);
+      roomy = t .if2 .left;
+    }
 
 returns-3 : tie.Need-returns-3
 returns-3 c =

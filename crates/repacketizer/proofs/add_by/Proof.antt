@@ -2,7 +2,7 @@
 -- Assumes nothing.
 use mathlib.Core.Path.{sym, _∙_}
 use borrow.Author.Needs.{needs}
-use Rattle.repacketizer.specs.Parts.{collectorOf}
+use Rattle.collector.specs.Parts.{collectorOf}
 use Rattle.repacketizer.proofs.Adds.{head-few, refused-as}
 use Rattle.repacketizer.proofs.StrictAdds.{by-dirt, by-no-dirt}
 use Rattle.repacketizer.proofs.add_by.Statement.{statement}
@@ -14,7 +14,7 @@ entry c = c .before .before .before .before .before
 dirty-refusal-requires : tie.Need-dirty-refusal-requires
 dirty-refusal-requires c κs =
     let s = entry (c .before) in
-    head-few (s .args .h) (s .args .len .now) (s .args .packet .now) (search needs) (s .pre .0) (s .pre .2)
+    head-few (search needs) (s .pre)
 
 returns : tie.Need-returns
 returns c =

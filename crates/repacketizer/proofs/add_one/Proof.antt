@@ -1,18 +1,14 @@
 -- `repacketizer::add_one` meets its contract: a frame that goes with those held is copied behind them.
 -- Assumes nothing.
-use Prim.Native.Nat.{_+_, _<_}
+use Prim.Native.Nat.{_+_}
 use mathlib.Core.Path.{refl}
 use mathlib.Core.List.{[], _∷_}
 use native.Mathlib.Omega.{arith}
 use borrow.Author.Needs.{needs}
 use Rattle.repacketizer.proofs.Lengths.{numbers-kept}
-use Rattle.repacketizer.proofs.Adds.{Joins, joins, head-few, block-stays, block-as}
+use Rattle.repacketizer.proofs.Adds.{Joins, joins, joins-numbers, joins-block, head-few, block-stays}
 use Rattle.repacketizer.proofs.add_one.Statement.{statement}
 use Rattle.repacketizer.proofs.add_one.Tie as tie
-
--- the collector is as the code can have it
-byte : (c : tie.Start) → c .args .h .toc < 256
-byte c = search needs
 
 abbrev entry : tie.After-goes-with → tie.Start
 entry c = c .before .before .before .before .before
@@ -20,7 +16,7 @@ entry c = c .before .before .before .before .before
 goes-with-requires : tie.Need-goes-with-requires
 goes-with-requires c κs =
     let s = c .before .before .before .before in
-    (head-few (s .args .h) (s .args .len .now) (s .args .packet .now) (byte s) (s .pre .0 .0) (s .pre .0 .2), omega arith)
+    (head-few (search needs) (s .pre .0), omega arith)
 
 returns : tie.Need-returns
 returns c =
@@ -30,18 +26,18 @@ returns c =
     (c .before .if1 .taken) (c .refused-add .ensures)
 
 -- the frame goes with those held
-fits : (c : tie.Else1) → let a = entry (c .before) .args in Joins (a .h) (a .len .now) (a .packet .now) (a .toc) (a .n ∷ [])
+fits : (c : tie.Else1)
+    → let a = entry (c .before) .args in
+    Joins (a .h) (a .len .now) (a .packet .now) (a .at) (a .toc) (a .n ∷ []) (a .store .now)
 fits c =
     let s = entry (c .before) in
     let a = s .args in
-    joins (a .h) (a .len .now) (a .packet .now) (byte s) (s .pre .0 .0) (s .pre .0 .2) (s .pre .0 .1) (a .toc) (a .n ∷ [])
-    (c .before .goes-with .ensures) (c .if1 .left) (omega arith) (s .pre .1 .0)
+    joins (search needs) (s .pre .0) (a .toc) (a .n ∷ []) (c .before .goes-with .ensures) (c .if1 .left) (omega arith) (s .pre .1 .0)
 
 copy-into-requires : tie.Need-copy-into-requires
 copy-into-requires c κs =
     let i = c .before .before in
-    let s = entry (i .before) in
-    (omega (arith, s .pre .0 .3, c .wide .ensures .0, fits i .room, s .pre .0 .4), omega (arith, c .wide .ensures .0, s .pre .1 .1))
+    (omega (arith, c .wide .ensures .0, fits i .room), omega (arith, c .wide .ensures .0, entry (i .before) .pre .1 .1))
 
 -- where the frame was found to go with those held
 abbrev joined : tie.After-wide2 → tie.Else1
@@ -49,8 +45,8 @@ joined c = let k = c .before .before .before in k .before .before .before
 
 slice-write-len : tie.Need-slice-write-len
 slice-write-len c =
-    let i = joined c in
-    omega (arith, c .wide2 .ensures .0, fits i .few, entry (i .before) .pre .0 .0)
+    let j = fits (joined c) in
+    omega (arith, c .wide2 .ensures .0, j .few, j .ready .lengths48)
 
 add-put-numbers : tie.Need-add-put-numbers
 add-put-numbers c = omega (arith, c .before .wide2 .ensures .0, fits (joined (c .before)) .few)
@@ -58,36 +54,25 @@ add-put-numbers c = omega (arith, c .before .wide2 .ensures .0, fits (joined (c 
 put-numbers-requires : tie.Need-put-numbers-requires
 put-numbers-requires c κs =
     let w = c .before in
-    let i = joined w in
-    let p = w .wide2 .ensures .0 in
-    (omega arith, omega (arith, p, fits i .few, entry (i .before) .pre .0 .1), λ h. rw p (fits i .countable (omega (arith, p, h))))
+    joins-numbers (fits (joined w)) (w .wide2 .ensures .0) (omega arith)
 
 more-frames-requires : tie.Need-more-frames-requires
 more-frames-requires c κs = omega (arith, fits (joined (c .before .before .before .before)) .few)
 
--- where the numbers were given
-abbrev given : tie.After-more-frames → tie.After-put-numbers
-given c = c .before .before .before
-
 same-length-2 : tie.Need-same-length-2
 same-length-2 c =
-    let p = given c in
+    let p = c .before .before .before in
     let w = p .before .before in
     numbers-kept (entry (joined w .before) .args .packet .now) (w .wide2 .result) (w .wide2 .result + 1) (p .put-numbers .ensures)
 
 returns-2 : tie.Need-returns-2
 returns-2 c =
-    let p = given c in
+    let p = c .before .before .before in
     let w = p .before .before in
     let k = w .before .before .before in
-    let t = k .before in
-    let i = t .before .before in
-    let s = entry (i .before) in
-    let a = s .args in
-    block-as (a .h) (a .len .now) (a .packet .now) (a .toc) (a .n ∷ []) (a .«data» .now) (a .first) (a .store .now) (fits i) (a .at) (t .wide .result)
-    (w .wide2 .result) (w .wide2 .result + 1) (c .more-frames .result) _ (p .put-numbers .last .0) (k .copy-into .last .0) (s .pre .0 .3)
-    (omega (arith, t .wide .ensures .0)) (w .wide2 .ensures .0) (omega arith) (c .more-frames .ensures)
-    refl (p .put-numbers .ensures) (k .copy-into .ensures)
+    let a = entry (joined w .before) .args in
+    joins-block (fits (joined w)) (a .«data» .now) (a .first) {n = k .before .wide .result} (w .wide2 .ensures .0) (k .copy-into .ensures) refl
+    (p .put-numbers .ensures) (c .more-frames .ensures) (omega (arith, k .before .wide .ensures .0)) (omega arith)
 
 pub add-one-spec : {M : Type 1} → statement M
 add-one-spec =

@@ -1,14 +1,12 @@
 -- `repacketizer::add_packet` meets its contract: what was read of one frame or two is added, and any other packet is asked for dirt and read whole.
 -- Assumes nothing.
-use mathlib.Core.Bool.{false}
 use mathlib.Core.List.{[], _∷_}
 use native.Mathlib.Omega.{arith}
 use borrow.Author.Needs.{needs}
 use Rattle.laws.specs.Bytes.{Bytes}
 use Rattle.opus.proofs.AtShort.{ShortRead, one-read, two-read}
-use Rattle.repacketizer.specs.Parts.{collectorOf}
-use Rattle.repacketizer.proofs.Adds.{add-read}
-use Rattle.repacketizer.proofs.StrictAdds.{by-uncounted}
+use Rattle.collector.specs.Parts.{collectorOf}
+use Rattle.repacketizer.proofs.StrictAdds.{by-short}
 use Rattle.repacketizer.proofs.add_packet.Statement.{statement}
 use Rattle.repacketizer.proofs.add_packet.Tie as tie
 
@@ -53,12 +51,7 @@ returns-2 c =
     let k = t .before .before in
     let a = entry k .args in
     let rp = collectorOf (a .h) (a .len .now) (a .packet .now) in
-    rw (
-      k .before .if1 .left,
-      by-uncounted (a .strict) false rp (a .«data» .now) (a .store .now) (one t .uncounted),
-      add-read false rp (a .«data» .now) (a .store .now) _ _ _ (one t .taken) (bytes (known k)) (one t .short) (one t .means),
-    )
-    (b .add-one .ensures)
+    rw (k .before .if1 .left, by-short (a .strict) rp (a .«data» .now) (a .store .now) (bytes (known k)) (one t)) (b .add-one .ensures)
 
 two : (c : tie.After-s2)
     → let a = entry (c .before .before) .args in
@@ -85,12 +78,7 @@ returns-3 c =
     let k = t .before .before in
     let a = entry k .args in
     let rp = collectorOf (a .h) (a .len .now) (a .packet .now) in
-    rw (
-      k .before .if1 .left,
-      by-uncounted (a .strict) false rp (a .«data» .now) (a .store .now) (two t .uncounted),
-      add-read false rp (a .«data» .now) (a .store .now) _ _ _ (two t .taken) (bytes (known k)) (two t .short) (two t .means),
-    )
-    (b .add-two .ensures)
+    rw (k .before .if1 .left, by-short (a .strict) rp (a .«data» .now) (a .store .now) (bytes (known k)) (two t)) (b .add-two .ensures)
 
 returns-4 : tie.Need-returns-4
 returns-4 c =

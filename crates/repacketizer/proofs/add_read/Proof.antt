@@ -9,7 +9,7 @@ use Rattle.laws.specs.Bytes.{Bytes}
 use Rattle.opus_format.proofs.Facts.{facts}
 use Rattle.opus.proofs.Parsed.{Read, lengthsOf}
 use Rattle.opus.proofs.Lent.{packetWith}
-use Rattle.repacketizer.specs.Parts.{collectorOf}
+use Rattle.collector.specs.Parts.{collectorOf}
 use Rattle.repacketizer.proofs.Parsed.{lent-read, lent-refused}
 use Rattle.repacketizer.proofs.Adds.{head-few, add-long, add-read, why-refused, refused-as}
 use Rattle.repacketizer.proofs.add_read.Statement.{statement}
@@ -69,7 +69,7 @@ returns-2 c =
 
 -- the frames held are at most 48
 few : (c : tie.Start) → c .args .h .«nb_frames» ≤ 48
-few c = head-few (c .args .h) (c .args .len .now) (c .args .packet .now) (search needs) (c .pre .0) (c .pre .2)
+few c = head-few (search needs) (c .pre)
 
 why-not-requires : tie.Need-why-not-requires
 why-not-requires c κs = few (entry (c .before .before .before))

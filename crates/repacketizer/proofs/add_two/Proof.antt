@@ -1,6 +1,6 @@
 -- `repacketizer::add_two` meets its contract: frames that go with those held are copied behind them.
 -- Assumes nothing.
-use Prim.Native.Nat.{_+_, _<_}
+use Prim.Native.Nat.{_+_}
 use mathlib.Core.Path.{_≡_}
 use mathlib.Core.List.{[], _∷_}
 use native.Mathlib.Omega.{arith}
@@ -8,13 +8,9 @@ use borrow.Author.Needs.{needs}
 use lib.ListN.{length-set}
 use Rattle.opus_format.specs.Frames.{total}
 use Rattle.repacketizer.proofs.Lengths.{two-put, numbers-kept}
-use Rattle.repacketizer.proofs.Adds.{Joins, joins, head-few, block-stays, block-as}
+use Rattle.repacketizer.proofs.Adds.{Joins, joins, joins-numbers, joins-block, head-few, block-stays}
 use Rattle.repacketizer.proofs.add_two.Statement.{statement}
 use Rattle.repacketizer.proofs.add_two.Tie as tie
-
--- the collector is as the code can have it
-byte : (c : tie.Start) → c .args .h .toc < 256
-byte c = search needs
 
 abbrev entry : tie.After-goes-with → tie.Start
 entry c = c .before .before .before .before .before
@@ -22,7 +18,7 @@ entry c = c .before .before .before .before .before
 goes-with-requires : tie.Need-goes-with-requires
 goes-with-requires c κs =
     let s = c .before .before .before .before in
-    (head-few (s .args .h) (s .args .len .now) (s .args .packet .now) (byte s) (s .pre .0 .0) (s .pre .0 .2), omega arith)
+    (head-few (search needs) (s .pre .0), omega arith)
 
 returns : tie.Need-returns
 returns c =
@@ -32,12 +28,13 @@ returns c =
     (g .goes-with .ensures) (c .before .if1 .taken) (c .refused-add .ensures)
 
 -- the frames go with those held
-fits : (c : tie.Else1) → let a = entry (c .before) .args in Joins (a .h) (a .len .now) (a .packet .now) (a .toc) (a .m ∷ a .n ∷ [])
+fits : (c : tie.Else1)
+    → let a = entry (c .before) .args in
+    Joins (a .h) (a .len .now) (a .packet .now) (a .at) (a .toc) (a .m ∷ a .n ∷ []) (a .store .now)
 fits c =
     let s = entry (c .before) in
     let a = s .args in
-    joins (a .h) (a .len .now) (a .packet .now) (byte s) (s .pre .0 .0) (s .pre .0 .2) (s .pre .0 .1) (a .toc) (a .m ∷ a .n ∷ [])
-    (c .before .goes-with .ensures) (c .if1 .left) (omega arith) (s .pre .1 .0)
+    joins (search needs) (s .pre .0) (a .toc) (a .m ∷ a .n ∷ []) (c .before .goes-with .ensures) (c .if1 .left) (omega arith) (s .pre .1 .0)
 
 -- the bytes of the frames, as the code counts them
 sum : (c : tie.After-wide2)
@@ -49,8 +46,7 @@ sum c = omega (arith, c .before .wide .ensures .0, c .wide2 .ensures .0)
 copy-into-requires : tie.Need-copy-into-requires
 copy-into-requires c κs =
     let i = c .before .before .before in
-    let s = entry (i .before) in
-    (omega (arith, s .pre .0 .3, sum c, fits i .room, s .pre .0 .4), omega (arith, sum c, s .pre .1 .1))
+    (omega (arith, sum c, fits i .room), omega (arith, sum c, entry (i .before) .pre .1 .1))
 
 -- where the frames were found to go with those held
 abbrev joined : tie.After-wide3 → tie.Else1
@@ -58,13 +54,13 @@ joined c = let k = c .before .before .before in k .before .before .before .befor
 
 slice-write-len : tie.Need-slice-write-len
 slice-write-len c =
-    let i = joined c in
-    omega (arith, c .wide3 .ensures .0, fits i .few, entry (i .before) .pre .0 .0)
+    let j = fits (joined c) in
+    omega (arith, c .wide3 .ensures .0, j .few, j .ready .lengths48)
 
 slice-write-len-2 : tie.Need-slice-write-len-2
 slice-write-len-2 c =
-    let i = joined c in
-    simp length-set (omega (arith, c .wide3 .ensures .0, fits i .few, entry (i .before) .pre .0 .0))
+    let j = fits (joined c) in
+    simp length-set (omega (arith, c .wide3 .ensures .0, j .few, j .ready .lengths48))
 
 add-put-numbers : tie.Need-add-put-numbers
 add-put-numbers c = omega (arith, c .before .wide3 .ensures .0, fits (joined (c .before)) .few)
@@ -72,36 +68,25 @@ add-put-numbers c = omega (arith, c .before .wide3 .ensures .0, fits (joined (c 
 put-numbers-requires : tie.Need-put-numbers-requires
 put-numbers-requires c κs =
     let w = c .before in
-    let i = joined w in
-    let p = w .wide3 .ensures .0 in
-    (omega arith, omega (arith, p, fits i .few, entry (i .before) .pre .0 .1), λ h. rw p (fits i .countable (omega (arith, p, h))))
+    joins-numbers (fits (joined w)) (w .wide3 .ensures .0) (omega arith)
 
 more-frames-requires : tie.Need-more-frames-requires
 more-frames-requires c κs = omega (arith, fits (joined (c .before .before .before .before)) .few)
 
--- where the numbers were given
-abbrev given : tie.After-more-frames → tie.After-put-numbers
-given c = c .before .before .before
-
 same-length-2 : tie.Need-same-length-2
 same-length-2 c =
-    let p = given c in
+    let p = c .before .before .before in
     let w = p .before .before in
     numbers-kept (entry (joined w .before) .args .packet .now) (w .wide3 .result) (w .wide3 .result + 2) (p .put-numbers .ensures)
 
 returns-2 : tie.Need-returns-2
 returns-2 c =
-    let p = given c in
+    let p = c .before .before .before in
     let w = p .before .before in
     let k = w .before .before .before in
-    let t = k .before in
-    let i = t .before .before .before in
-    let s = entry (i .before) in
-    let a = s .args in
-    block-as (a .h) (a .len .now) (a .packet .now) (a .toc) (a .m ∷ a .n ∷ []) (a .«data» .now) (a .first) (a .store .now) (fits i) (a .at) _
-    (w .wide3 .result) (w .wide3 .result + 2) (c .more-frames .result) _ (p .put-numbers .last .0) (k .copy-into .last .0) (s .pre .0 .3) (sum t)
-    (w .wide3 .ensures .0) (omega arith) (c .more-frames .ensures) (two-put (a .len .now) (w .wide3 .result) (a .m) (a .n)) (p .put-numbers .ensures)
-    (k .copy-into .ensures)
+    let a = entry (joined w .before) .args in
+    joins-block (fits (joined w)) (a .«data» .now) (a .first) (w .wide3 .ensures .0) (k .copy-into .ensures)
+    (two-put (a .len .now) (w .wide3 .result) (a .m) (a .n)) (p .put-numbers .ensures) (c .more-frames .ensures) (sum (k .before)) (omega arith)
 
 pub add-two-spec : {M : Type 1} → statement M
 add-two-spec =

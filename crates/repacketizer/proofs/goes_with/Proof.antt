@@ -4,7 +4,7 @@ use mathlib.Core.Path.{_∙_}
 use mathlib.Core.List.{[]}
 use native.Mathlib.Omega.{arith}
 use borrow.Author.Needs.{needs}
-use Rattle.repacketizer.specs.Parts.{bare}
+use Rattle.collector.specs.Parts.{bare}
 use Rattle.repacketizer.proofs.Adds.{goes-none, goes-other, goes-time}
 use Rattle.repacketizer.proofs.goes_with.Statement.{statement}
 use Rattle.repacketizer.proofs.goes_with.Tie as tie

@@ -1,7 +1,7 @@
 -- `repacketizer::opus_repacketizer_cat_impl` meets its contract: the collector is taken apart and put together again.
 -- Assumes nothing.
 use borrow.Author.Needs.{needs}
-use Rattle.repacketizer.proofs.Checks.{headed}
+use Rattle.collector.proofs.Checks.{headed}
 use Rattle.repacketizer.proofs.opus_repacketizer_cat_impl.Statement.{statement}
 use Rattle.repacketizer.proofs.opus_repacketizer_cat_impl.Tie as tie
 

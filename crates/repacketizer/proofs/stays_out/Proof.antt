@@ -3,7 +3,7 @@
 use mathlib.Core.Path.{sym, _∙_}
 use mathlib.Core.List.{[]}
 use borrow.Author.Needs.{needs}
-use Rattle.repacketizer.specs.Parts.{bare}
+use Rattle.collector.specs.Parts.{bare}
 use Rattle.repacketizer.proofs.Adds.{stays-none, stays-goes, stays-other, stays-lasting}
 use Rattle.repacketizer.proofs.stays_out.Statement.{statement}
 use Rattle.repacketizer.proofs.stays_out.Tie as tie

@@ -4,7 +4,7 @@ use mathlib.Core.Path.{_≡_, _∙_}
 use borrow.Author.Needs.{needs}
 use mir.Syntax.{w32}
 use mir.Val.{toZ, ofZ}
-use Rattle.repacketizer.proofs.Checks.{headed}
+use Rattle.collector.proofs.Checks.{headed}
 use Rattle.repacketizer_out.proofs.Outputs.{meets, out-passed}
 use Rattle.repacketizer_out.proofs.opus_repacketizer_out_range_impl.Statement.{statement}
 use Rattle.repacketizer_out.proofs.opus_repacketizer_out_range_impl.Tie as tie

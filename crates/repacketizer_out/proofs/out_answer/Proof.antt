@@ -8,11 +8,11 @@ use lib.ListN.{length}
 use Rattle.opus_defines.specs.declared.Refusal.the-variants.{BadArg, InvalidState}
 use Rattle.opus_defines.proofs.Counts.{counted, is-natural}
 use Rattle.opus_toc.specs.Toc.{upperSix}
-use Rattle.repacketizer.specs.declared.OpusRepacketizer.{OpusRepacketizer}
-use Rattle.repacketizer.specs.Collector.{held, sound}
-use Rattle.repacketizer.specs.Parts.{collectorOf}
-use Rattle.repacketizer.proofs.Sound.{sound-bare}
-use Rattle.repacketizer.proofs.Checks.{checked-sound}
+use Rattle.collector.specs.declared.OpusRepacketizer.{OpusRepacketizer}
+use Rattle.collector.specs.Collector.{held, sound}
+use Rattle.collector.specs.Parts.{collectorOf}
+use Rattle.collector.proofs.Sound.{sound-bare}
+use Rattle.collector.proofs.Checks.{checked-sound}
 use Rattle.repacketizer_out.specs.Output.{outFrames, outRange}
 use Rattle.opus_defines.specs.Outcome.{leaves}
 use Rattle.repacketizer_out.proofs.Outputs.{meets, refused-as, out-unsound, out-tight}

@@ -9,9 +9,9 @@ use lib.Seq.{length-take-le}
 use Rattle.opus_defines.specs.declared.Refusal.the-variants.{BadArg}
 use Rattle.opus_toc.specs.Toc.{upperSix}
 use Rattle.opus_format.specs.Frames.{total}
-use Rattle.repacketizer.specs.Collector.{held}
-use Rattle.repacketizer.specs.Parts.{bare}
-use Rattle.repacketizer.proofs.Held.{Holding, holding}
+use Rattle.collector.specs.Collector.{held}
+use Rattle.collector.specs.Parts.{bare}
+use Rattle.collector.proofs.Held.{Holding, holding}
 use Rattle.repacketizer_out.proofs.Ranges.{Part, part-of, part-from}
 use Rattle.repacketizer_out.proofs.Outputs.{meets, refused-as, frames-none, held-past, held-within}
 use Rattle.repacketizer_out.proofs.out_frames.Statement.{statement}

@@ -4,7 +4,7 @@ use mathlib.Core.Path.{_≡_, _∙_}
 use borrow.Author.Needs.{needs}
 use mir.Syntax.{w32}
 use mir.Val.{toZ, ofZ}
-use Rattle.repacketizer.specs.Parts.{collectorOf}
+use Rattle.collector.specs.Parts.{collectorOf}
 use Rattle.repacketizer_out.proofs.Outputs.{meets, out-passed}
 use Rattle.repacketizer_out.proofs.out_lent.Statement.{statement}
 use Rattle.repacketizer_out.proofs.out_lent.Tie as tie

@@ -46,9 +46,9 @@ use denote.Triple.Table.{cited}
 use denote.Triple.Walked.{Stays, gave-slice, stay-dropped, walkOf, goes-gave-slice, goes-dropped, ends-at}
 use denote.Exit.{yes}
 use borrow.Table.Elements.{length-take-le}
-use Rattle.repacketizer.specs.declared.Head.{Head}
-use Rattle.repacketizer.proofs.Head as D
-use Rattle.repacketizer.proofs.Head.Laws as D′
+use Rattle.collector.specs.declared.Head.{Head}
+use Rattle.collector.proofs.Head as D
+use Rattle.collector.proofs.Head.Laws as D′
 use Rattle.cut_orders.specs.declared.Order.{Order}
 use Rattle.cut_orders.specs.declared.OrderReport.{OrderReport}
 use Rattle.cut_orders.proofs.Order as T

@@ -46,11 +46,11 @@ use denote.Triple.Clauses.{ensured, lasts}
 use Rattle.opus_defines.specs.Outcome.{Effect, refusal, Outcome, leaves}
 use Rattle.opus_defines.specs.declared.Refusal.{Refusal}
 use Rattle.opus_toc.specs.Toc.{upperSix}
-use Rattle.repacketizer.specs.declared.Head.{Head}
-use Rattle.repacketizer.specs.Collector.{held, leastStore, framed}
-use Rattle.repacketizer.specs.Parts.{collectorOf, bare}
-use Rattle.repacketizer.proofs.Head as D
-use Rattle.repacketizer.proofs.Head.Laws as D′
+use Rattle.collector.specs.declared.Head.{Head}
+use Rattle.collector.specs.Collector.{held, leastStore, framed}
+use Rattle.collector.specs.Parts.{collectorOf, bare}
+use Rattle.collector.proofs.Head as D
+use Rattle.collector.proofs.Head.Laws as D′
 use Rattle.repacketizer_out.specs.Output.{outFrames}
 use Rattle.cut_orders.specs.declared.OrderReport.{OrderReport}
 use Rattle.cut_orders.specs.Orders.{Cutting, begun, orderReport, next, turns, done as counted, natural}

@@ -37,7 +37,7 @@ use denote.Index.{place-is, row, elem-out, elem-back}
 use denote.Steps.{heard}
 use denote.Struct.Laws as LL
 use denote.Triple.Statement.{Triple}
-use Rattle.repacketizer.specs.declared.Head.{Head}
+use Rattle.collector.specs.declared.Head.{Head}
 use Rattle.cut_orders.specs.declared.Order.{Order}
 use Rattle.cut_orders.specs.Orders.{Cutting, orderReport}
 use Rattle.cut_orders.proofs.Order as T

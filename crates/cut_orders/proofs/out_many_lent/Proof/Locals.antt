@@ -13,7 +13,7 @@ use prog.Wp.{Heap, Env, spotOf}
 use types.Kit.{Item, ‵}
 use denote.Memory.{pointee}
 use denote.Slice.{sliceTy}
-use Rattle.repacketizer.proofs.Head.Laws as D′
+use Rattle.collector.proofs.Head.Laws as D′
 use Rattle.cut_orders.proofs.Order as T
 use Rattle.cut_orders.proofs.OrderReport.Laws as R′
 

@@ -13,11 +13,11 @@ use mathlib.Core.List.{List}
 use lib.IntN.{pos}
 use lib.ListN.{length, take, drop, getD, set}
 use Rattle.opus_toc.specs.Toc.{upperSix}
-use Rattle.repacketizer.specs.declared.Head.{Head}
-use Rattle.repacketizer.specs.declared.OpusRepacketizer.{OpusRepacketizer}
-use Rattle.repacketizer.specs.Collector.{framed, held, leastStore}
-use Rattle.repacketizer.specs.Parts.{collectorOf, bare}
-use Rattle.repacketizer.proofs.Sound.{sound-bare}
+use Rattle.collector.specs.declared.Head.{Head}
+use Rattle.collector.specs.declared.OpusRepacketizer.{OpusRepacketizer}
+use Rattle.collector.specs.Collector.{framed, held, leastStore}
+use Rattle.collector.specs.Parts.{collectorOf, bare}
+use Rattle.collector.proofs.Sound.{sound-bare}
 use Rattle.cut_orders.specs.declared.Order.{Order}
 use Rattle.cut_orders.specs.Orders.{Cutting, each, begun, orderReport, next, withLength, leavesMany, outMany, natural, turns, done}
 use Rattle.cut_orders.proofs.Each as E

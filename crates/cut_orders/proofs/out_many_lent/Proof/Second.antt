@@ -39,7 +39,7 @@ use denote.Index.{place-is, row, elem-out, elem-put}
 use denote.Steps.{heard, owned}
 use denote.Struct.Laws as LL
 use denote.Triple.Statement.{Triple}
-use Rattle.repacketizer.specs.declared.Head.{Head}
+use Rattle.collector.specs.declared.Head.{Head}
 use Rattle.cut_orders.specs.declared.Order.{Order}
 use Rattle.cut_orders.specs.Orders.{withLength}
 use Rattle.cut_orders.proofs.Order as T
