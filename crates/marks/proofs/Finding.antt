@@ -15,7 +15,7 @@ use lib.ListN.{length, getD, take, drop, length-drop, take-append-drop}
 use lib.Seq.{drop-cons, drop-drop, take-length, length-take-le}
 use Rattle.laws.proofs.Never.{by-test}
 use Rattle.bytes.specs.Bytes.{slice, indexOf, indexAfter}
-use Rattle.marks.specs.Words.{flagsOf}
+use Rattle.marks.specs.Flags.{flagsOf}
 use Rattle.marks.proofs.Flags.{flags-none, flags-some}
 
 -- ---- a list and what follows it

@@ -1,5 +1,4 @@
 -- Which bytes of a word are 4B, found for all of them at once.
---     word-told                  eight bytes read as a number
 --     no-carry, no-borrow        the sum and the difference stay within a word
 --     flags-told                 the flags, as the code computes them
 --     first-told, first-most     the first flag
@@ -11,8 +10,7 @@ use mathlib.Core.Path.{_≡_, refl}
 use mathlib.Core.List.{List, [], _∷_}
 use mathlib.Core.Bool.{cond}
 use lib.Dec.{eqb}
-use lib.ListN.{length, getD, take, drop, replicate}
-use lib.Seq.{drop-cons}
+use lib.ListN.{length, replicate}
 use lib.Bits.{bitAnd, bitOr, bitXor, and-block, or-block, xor-block, and-le-r, or-lt, xor-lt}
 use lib.Count.{trailingZeros, trailing-le}
 use borrow.Author.Tests.{eqb-true}
@@ -21,11 +19,12 @@ use Rattle.laws.proofs.Bytes.{bytes-tail}
 use Rattle.laws.proofs.Never.{by-test}
 use Rattle.laws.proofs.Every.{every-at}
 use Rattle.bytes.specs.Bytes.{indexOf, indexAfter}
-use Rattle.marks.specs.Words.{wordOf, flagsOf}
+use Rattle.low_first.specs.Numbers.{fromLow}
+use Rattle.marks.specs.Flags.{flagsOf}
 
 -- ---- a word in which all bytes are b
 abbrev all : ℕ → ℕ → ℕ
-all n b = wordOf (replicate n b)
+all n b = fromLow (replicate n b)
 
 -- 128 in each byte that is not 4B
 abbrev others : ℕ → ℕ → ℕ
@@ -55,11 +54,11 @@ others-cons n w b h =
     and-block 8 (bitOr Y X) (all n 128) (bitOr y x) 128 (or-lt 8 y x ys xs) (omega arith) in
     rw (a, b, c, d) e
 
-others-flags : (l : List ℕ) → Bytes l → others (length l) (wordOf l) + flagsOf l ≡ all (length l) 128
+others-flags : (l : List ℕ) → Bytes l → others (length l) (fromLow l) + flagsOf l ≡ all (length l) 128
 others-flags [] bytes = refl
 others-flags (b ∷ l) bytes =
     let h : b < 256 = bytes .byte 0 in
-    omega (arith, others-cons (length l) (wordOf l) b h, one b h, others-flags l (bytes-tail bytes))
+    omega (arith, others-cons (length l) (fromLow l) b h, one b h, others-flags l (bytes-tail bytes))
 
 -- ---- as the code has it
 module _ (w : ℕ) where
@@ -75,7 +74,7 @@ module _ (w : ℕ) where
   pub no-borrow : found ≤ 0x8080808080808080
   no-borrow = and-le-r (bitOr (bitAnd mixed 0x7F7F7F7F7F7F7F7F + 0x7F7F7F7F7F7F7F7F) mixed) 0x8080808080808080
 
-  pub flags-told : (l : List ℕ) → length l ≡ 8 → Bytes l → w ≡ wordOf l → 0x8080808080808080 - found ≡ flagsOf l
+  pub flags-told : (l : List ℕ) → length l ≡ 8 → Bytes l → w ≡ fromLow l → 0x8080808080808080 - found ≡ flagsOf l
   flags-told l n bytes e =
       let k : others 8 w + flagsOf l ≡ 0x8080808080808080 = rw (n, ← e) at (others-flags l bytes) in
       omega (arith, k)
@@ -134,29 +133,3 @@ flags-some [] f = absurd (f refl)
 flags-some (b ∷ l) f =
     by-test (eqb b 75) (λ t. rw t (omega arith))
     (λ t. rw t (omega (arith, flags-some l (λ z. f (rw (t, z))))))
-
--- ---- eight bytes of a list
-cons-at : (n : ℕ) (s : List ℕ) (at next : ℕ) → at < length s → next ≡ at + 1 → take (suc n) (drop at s) ≡ getD s at 0 ∷ take n (drop next s)
-cons-at n s at next h e = let f : next ≡ suc at = omega (arith, e) in rw (f, drop-cons s at 0 h)
-
-eight-at : (s : List ℕ) (at : ℕ) → at + 8 ≤ length s
-    → take 8 (drop at s)
-    ≡ getD s at 0 ∷ getD s (at + 1) 0 ∷ getD s (at + 2) 0 ∷ getD s (at + 2 + 1) 0 ∷ getD s (at + 4) 0 ∷ getD s (at + 4 + 1) 0
-    ∷ getD s (at + 4 + 2) 0 ∷ getD s (at + 4 + 2 + 1) 0 ∷ []
-eight-at s at h =
-    rw (
-      cons-at 7 s at (at + 1) (omega arith) refl,
-      cons-at 6 s (at + 1) (at + 2) (omega arith) (omega arith),
-      cons-at 5 s (at + 2) (at + 2 + 1) (omega arith) refl,
-      cons-at 4 s (at + 2 + 1) (at + 4) (omega arith) (omega arith),
-      cons-at 3 s (at + 4) (at + 4 + 1) (omega arith) refl,
-      cons-at 2 s (at + 4 + 1) (at + 4 + 2) (omega arith) (omega arith),
-      cons-at 1 s (at + 4 + 2) (at + 4 + 2 + 1) (omega arith) refl,
-      cons-at 0 s (at + 4 + 2 + 1) (at + 8) (omega arith) (omega arith),
-    )
-
-pub word-told : (s : List ℕ) (at : ℕ) → at + 8 ≤ length s → (lo hi w : ℕ)
-    → lo ≡ getD s at 0 + 256 * getD s (at + 1) 0 + 65536 * (getD s (at + 2) 0 + 256 * getD s (at + 2 + 1) 0)
-    → hi ≡ getD s (at + 4) 0 + 256 * getD s (at + 4 + 1) 0 + 65536 * (getD s (at + 4 + 2) 0 + 256 * getD s (at + 4 + 2 + 1) 0)
-    → w ≡ lo + 4294967296 * hi → w ≡ wordOf (take 8 (drop at s))
-word-told s at h lo hi w a b c = rw (eight-at s at h) (omega (arith, a, b, c))

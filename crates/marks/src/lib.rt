@@ -1,42 +1,17 @@
 // The first byte of a mark, 4B (document 02, M-101), sought by words of eight bytes.
 ghost use mathlib.Core.Path.{_≡_};
 ghost use mathlib.Core.List.{List};
-ghost use Prim.Native.Nat.{ℕ, _+_, _*_, _<_, _≤_};
-ghost use lib.ListN.{length, getD, take, drop};
+ghost use Prim.Native.Nat.{ℕ, _+_, _<_, _≤_};
+ghost use lib.ListN.{length, take, drop};
 ghost use Rattle.laws.specs.Bytes.{Bytes};
 ghost use Rattle.bytes.specs.Bytes.{indexOf, slice};
-ghost use Rattle.marks.specs.Words.{wordOf, flagsOf};
-use opus_defines::wide_byte;
-
-// Two bytes as a number, the first one lowest; then four, and eight, which are loaded as one word.
-fn two_at(data: &[u8], at: usize) -> usize
-    requires { ⌜ at + 2 ≤ length (now «data») ⌝ }
-    ensures { λ r. ⌜ (r ≡ getD (now («data» .entry)) at 0 + 256 * getD (now («data» .entry)) (at + 1) 0) × (r < 65536) ⌝ }
-{
-    wide_byte(data[at]) + 256 * wide_byte(data[at + 1])
-}
-
-fn four_at(data: &[u8], at: usize) -> usize
-    requires { ⌜ at + 4 ≤ length (now «data») ⌝ }
-    ensures sum { λ r. ⌜ r
-        ≡ getD (now («data» .entry)) at 0 + 256 * getD (now («data» .entry)) (at + 1) 0
-        + 65536 * (getD (now («data» .entry)) (at + 2) 0 + 256 * getD (now («data» .entry)) (at + 2 + 1) 0) ⌝ }
-    ensures most { λ r. ⌜ r < 4294967296 ⌝ }
-{
-    two_at(data, at) + 65536 * two_at(data, at + 2)
-}
-
-fn word_at(data: &[u8], at: usize) -> usize
-    requires { ⌜ at + 8 ≤ length (now «data») ⌝ }
-    ensures { λ r. ⌜ r ≡ wordOf (take 8 (drop at (now («data» .entry)))) ⌝ }
-{
-    four_at(data, at) + 4294967296 * four_at(data, at + 4)
-}
+ghost use Rattle.low_first.specs.Numbers.{fromLow};
+ghost use Rattle.marks.specs.Flags.{flagsOf};
 
 // 128 in each byte of a word that is 4B, and 0 in the others. With 127 added to its lower seven bits a byte that is not zero has its highest bit set, there or
 // before; no sum passes its byte.
 fn marks_in(w: usize) -> usize
-    ensures { λ r. ⌜ ((l : List ℕ) → length l ≡ 8 → Bytes l → w ≡ wordOf l → r ≡ flagsOf l) ⌝ }
+    ensures { λ r. ⌜ ((l : List ℕ) → length l ≡ 8 → Bytes l → w ≡ fromLow l → r ≡ flagsOf l) ⌝ }
 {
     let x = w ^ 0x4B4B4B4B4B4B4B4B;
     let y = (x & 0x7F7F7F7F7F7F7F7F) + 0x7F7F7F7F7F7F7F7F;
@@ -47,7 +22,7 @@ fn marks_at(data: &[u8], at: usize) -> usize
     requires { ⌜ at + 8 ≤ length (now «data») ⌝ }
     ensures { λ r. ⌜ r ≡ flagsOf (take 8 (drop at (now («data» .entry)))) ⌝ }
 {
-    marks_in(word_at(data, at))
+    marks_in(low_first::eight_at(data, at))
 }
 
 // The first of a word's bytes that is so marked; 8 where none is.

@@ -23,8 +23,9 @@ use Rattle.opus_defines.specs.declared.Refusal.{Refusal}
 use Rattle.opus_defines.specs.declared.Refusal.the-variants.{BadHeader, UnknownVersion, BadField}
 use Rattle.opus_head.specs.declared.OpusHead.{OpusHead}
 use Rattle.opus_head.specs.declared.HeadRead.{HeadRead}
+use Rattle.low_first.specs.Numbers.{numberAt}
 use Rattle.opus_head.specs.Header.{letters, table, headBytes, Lawful}
-use Rattle.opus_head.specs.Reading.{begins, needed, longAs, ruled, entries, numberAt, noHead, aHead, headOf, headRead, headWith}
+use Rattle.opus_head.specs.Reading.{begins, needed, longAs, ruled, entries, noHead, aHead, headOf, headRead, headWith}
 use Rattle.opus_head.specs.Parts.{checked}
 use Rattle.opus_head.specs.Heads.{InRange}
 use Rattle.opus_head.proofs.Laid.{fixedOf, bytes-then, bytes-long}

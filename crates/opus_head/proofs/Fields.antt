@@ -1,29 +1,22 @@
 -- The fields of a header as the code reads and writes them.
 -- Assumes nothing.
-use Prim.Native.Nat.{ℕ, zero, suc, _+_, _*_, _-_, _<_, _≤_, _/_, _%_}
+use Prim.Native.Nat.{ℕ, zero, suc, _+_, _-_, _<_, _≤_, _/_, _%_}
 use native.Mathlib.Nat.{sub-zero, zero-sub, suc-sub-suc}
-use native.Mathlib.Numerals.{add-one}
 use native.Mathlib.Omega.{arith}
 use mathlib.Core.Path.{_≡_, refl, _∙_}
 use mathlib.Core.List.{List, [], _∷_}
 use lib.Dec.{eqb}
 use lib.IntN.{ℤ}
 use lib.ListN.{length, take, drop, getD, set, replicate, length-replicate}
-use lib.Seq.{sets, sets-eq, drop-cons, take-nil}
+use lib.Seq.{sets, sets-eq, take-nil}
 use mir.Syntax.{w16}
 use mir.Val.{toZ, ofZ, SFits}
 use mir.ValLaws.{toZ-ofZ}
 use borrow.Author.Tests.{eq-eqb, ne-eqb}
 use Rattle.laws.proofs.Never.{by-test}
+use Rattle.low_first.specs.Numbers.{numberAt}
 use Rattle.opus_head.specs.Header.{bits16, fixedBytes}
-use Rattle.opus_head.specs.Reading.{numberAt, signed16, entries, needed, headOf, bytesNeeded, headWith, plainHead}
-
--- ---- numbers
-pub number-two : (s : List ℕ) (at : ℕ) → at + 2 ≤ length s → numberAt s at 2 ≡ getD s at 0 + 256 * getD s (at + 1) 0
-number-two s at h =
-    let h′ : at < length s = omega arith in
-    let k : suc at < length s = omega arith in
-    rw (drop-cons s at 0 h′, drop-cons s (suc at) 0 k, add-one) (omega arith)
+use Rattle.opus_head.specs.Reading.{signed16, entries, needed, headOf, bytesNeeded, headWith, plainHead}
 
 -- ---- mappings
 drop-zeros : (k n : ℕ) → drop {A = ℕ} k (replicate n 0) ≡ replicate (n - k) 0
@@ -46,16 +39,6 @@ pub own-two : (n : ℕ) → 1 < n → set (replicate 255 0) 1 1 ≡ entries (tak
 own-two zero h = absurd (omega arith)
 own-two (suc zero) h = absurd (omega arith)
 own-two (suc (suc n)) h = rw (take-nil {A = ℕ} n)
-
--- ---- the number of four bytes is that of two numbers of two
-pub number-four : (s : List ℕ) (at : ℕ) → at + 4 ≤ length s → numberAt s at 4 ≡ numberAt s at 2 + 65536 * numberAt s (at + 2) 2
-number-four s at h =
-    let h₀ : at < length s = omega arith in
-    let h₁ : suc at < length s = omega arith in
-    let h₂ : suc (suc at) < length s = omega arith in
-    let h₃ : suc (suc (suc at)) < length s = omega arith in
-    let e : at + 2 ≡ suc (suc at) = omega arith in
-    rw (drop-cons s at 0 h₀, drop-cons s (suc at) 0 h₁, e, drop-cons s (suc (suc at)) 0 h₂, drop-cons s (suc (suc (suc at))) 0 h₃) (omega arith)
 
 -- ---- the fields together
 module _ (s : List ℕ) where

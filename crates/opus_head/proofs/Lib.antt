@@ -4,7 +4,6 @@ pub mod Gain
 pub mod Fields
 pub mod Laid
 pub mod Answered
-pub mod Numbers
 pub mod Ruling
 pub mod Spelled
 pub mod Exactly

@@ -24,10 +24,11 @@ use Rattle.opus_defines.specs.Outcome.{refuses, writes}
 use Rattle.opus_defines.specs.declared.Refusal.the-variants.{BufferTooSmall, BadHeader, UnknownVersion, BadField}
 use Rattle.opus_defines.proofs.Outcomes.{refusal-keeps}
 use Rattle.opus_head.specs.declared.OpusHead.{OpusHead}
-use Rattle.opus_head.specs.Header.{letters, lowFirst, bits16, headBytes, Lawful}
-use Rattle.opus_head.specs.Reading.{fromLow, signed16, noHead, aHead, headRead, headWritten, headWrite, bytesNeeded}
+use Rattle.low_first.specs.Numbers.{lowFirst, fromLow}
+use Rattle.opus_head.specs.Header.{letters, bits16, headBytes, Lawful}
+use Rattle.opus_head.specs.Reading.{signed16, noHead, aHead, headRead, headWritten, headWrite, bytesNeeded}
 use Rattle.opus_head.specs.Heads.{InRange, Writable}
-use Rattle.opus_head.proofs.Numbers.{low-back, from-back}
+use Rattle.low_first.proofs.Numbers.{low-back, from-back}
 use Rattle.opus_head.proofs.Gain.{bits-back, signed-back}
 use Rattle.opus_head.proofs.Laid.{bytes-long}
 use Rattle.opus_head.proofs.Exactly.{answers, accepted-was, was-lawful, was-ranged, was-spelled, was-whole, accepted, not-lettered, lettered-version}

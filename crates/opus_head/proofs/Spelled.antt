@@ -15,14 +15,15 @@ use Rattle.laws.proofs.Bytes.{bytes-drop, bytes-take}
 use Rattle.laws.proofs.Never.{never, by-test}
 use Rattle.laws.proofs.Every.{both-left, both-right}
 use Rattle.opus_head.specs.declared.OpusHead.{OpusHead}
-use Rattle.opus_head.specs.Header.{letters, lowFirst, bits16, table, headBytes, Lawful}
-use Rattle.opus_head.specs.Reading.{numberAt, signed16, begins, needed, entries, headOf, headWith}
+use Rattle.low_first.specs.Numbers.{lowFirst, numberAt}
+use Rattle.low_first.proofs.Numbers.{from-back, low-back, from-below}
+use Rattle.opus_head.specs.Header.{letters, bits16, table, headBytes, Lawful}
+use Rattle.opus_head.specs.Reading.{signed16, begins, needed, entries, headOf, headWith}
 use Rattle.opus_head.specs.Heads.{InRange}
 use Rattle.opus_head.specs.Parts.{fieldsOf}
 use Rattle.blocks.proofs.Sets.{length-part}
 use Rattle.opus_head.proofs.Fields.{head-plain, head-table, needs-table}
 use Rattle.opus_head.proofs.Laid.{fixedOf}
-use Rattle.opus_head.proofs.Numbers.{from-back, low-back, from-below}
 use Rattle.opus_head.proofs.Gain.{bits-back, signed-back, bits-below}
 
 -- ---- the letters

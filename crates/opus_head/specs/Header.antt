@@ -1,5 +1,5 @@
 -- The identification header of an Ogg Opus stream (RFC 7845, 5.1; document 02, M-111): the bytes of its fields, and the rules that the fields obey.
-use Prim.Native.Nat.{ℕ, zero, suc, _+_, _-_, _<_, _≤_, _/_, _%_}
+use Prim.Native.Nat.{ℕ, _+_, _-_, _<_, _≤_}
 use mathlib.Core.Path.{_≡_}
 use mathlib.Core.List.{List, [], _∷_, _++_}
 use mathlib.Core.Bool.{cond}
@@ -7,17 +7,13 @@ use mathlib.Core.Logic.{_⊎_}
 use lib.Dec.{eqb}
 use lib.IntN.{ℤ, pos, negsuc}
 use lib.ListN.{take, getD}
+use Rattle.low_first.specs.Numbers.{lowFirst}
 use Rattle.opus_head.specs.declared.OpusHead.{OpusHead}
 
 -- ---- bytes
 -- OpusHead
 abbrev pub letters : List ℕ
 letters = 0x4f ∷ 0x70 ∷ 0x75 ∷ 0x73 ∷ 0x48 ∷ 0x65 ∷ 0x61 ∷ 0x64 ∷ []
-
--- a number in so many bytes, low byte first
-abbrev pub lowFirst : ℕ → ℕ → List ℕ
-lowFirst zero n = []
-lowFirst (suc k) n = n % 256 ∷ lowFirst k (n / 256)
 
 -- the 16 bits of a signed number
 abbrev pub bits16 : ℤ → ℕ

@@ -1,5 +1,5 @@
 -- What the reader and the writer of the identification header answer (document 02, M-111).
-use Prim.Native.Nat.{ℕ, zero, suc, _+_, _*_, _-_}
+use Prim.Native.Nat.{ℕ, zero, suc, _+_, _-_}
 use mathlib.Core.List.{List, [], _∷_, _++_}
 use mathlib.Core.Bool.{Bool, true, false, cond, _&&_, _||_, not}
 use lib.Dec.{eqb, ltb, leb}
@@ -9,6 +9,7 @@ use Rattle.opus_defines.specs.Outcome.{Effect, refusal, intoRoom, Outcome, leav
 use Rattle.opus_defines.specs.declared.Refusal.{Refusal}
 use Rattle.opus_defines.specs.declared.Refusal.the-variants.{BadHeader, UnknownVersion, BadField}
 use Rattle.opus_defines.specs.declared.Verdict.the-variants.{Accepted, Refused}
+use Rattle.low_first.specs.Numbers.{numberAt}
 use Rattle.opus_head.specs.Header.{letters, headBytes}
 use Rattle.opus_head.specs.declared.OpusHead.{OpusHead}
 use Rattle.opus_head.specs.declared.HeadRead.{HeadRead}
@@ -41,15 +42,6 @@ abbrev pub ruled : OpusHead → Bool
 ruled h = fieldsFit (h .channels) (h .family) (h .streams) (h .coupled) (h .mapping)
 
 -- ---- reading
--- a number of bytes, low byte first
-abbrev pub fromLow : List ℕ → ℕ
-fromLow [] = 0
-fromLow (b ∷ bs) = b + 256 * fromLow bs
-
--- the number of n bytes at a place
-abbrev pub numberAt : List ℕ → ℕ → ℕ → ℕ
-numberAt s at n = fromLow (take n (drop at s))
-
 -- 16 bits as a signed number
 abbrev pub signed16 : ℕ → ℤ
 signed16 n = cond (ltb n 32768) (pos n) (negsuc (65535 - n))

@@ -7,7 +7,7 @@ ghost use lib.Seq.{sets};
 ghost use Rattle.opus_defines.specs.Numbers.{reportOf};
 ghost use Rattle.opus_head.specs.Header.{letters, bits16, fixedBytes, headBytes};
 ghost use Rattle.opus_head.specs.Reading.{channelsFit, entriesFit, streamsFit, oneStream, fieldsFit, begins, bytesNeeded, needed, longAs};
-ghost use Rattle.opus_head.specs.Reading.{signed16, numberAt, entries, headWith, plainHead, headOf, noHead, headRead, headWrite};
+ghost use Rattle.opus_head.specs.Reading.{signed16, entries, headWith, plainHead, headOf, noHead, headRead, headWrite};
 ghost use Rattle.opus_head.specs.Parts.{entryFits, checked, fieldsOf};
 use opus_defines::Answer;
 use opus_defines::Refusal;
@@ -169,25 +169,6 @@ fn has_letters(data: &[u8]) -> bool
     true
 }
 
-// The number of two bytes, low byte first, and of four.
-fn low_16(data: &[u8], at: usize) -> u16
-    requires { ⌜ at + 2 ≤ length (now «data») ⌝ }
-    ensures { λ r. ⌜ r ≡ numberAt (now («data» .entry)) at 2 ⌝ }
-{
-    let low = wide_byte(data[at]);
-    let high = wide_byte(data[at + 1]);
-    (low + 256 * high) as u16
-}
-
-fn low_32(data: &[u8], at: usize) -> u32
-    requires { ⌜ at + 4 ≤ length (now «data») ⌝ }
-    ensures { λ r. ⌜ r ≡ numberAt (now («data» .entry)) at 4 ⌝ }
-{
-    let low = opus_defines::wide(low_16(data, at));
-    let high = opus_defines::wide(low_16(data, at + 2));
-    (low + 65536 * high) as u32
-}
-
 // 16 bits as a signed number, and back.
 fn gain_of(bits: u16) -> i16
     ensures { λ r. ⌜ r ≡ signed16 bits ⌝ }
@@ -234,9 +215,9 @@ fn head_mapped(data: &[u8], streams: u8, coupled: u8, mapping: [u8; 255]) -> Opu
     requires { ⌜ 19 ≤ length (now «data») ⌝ }
     ensures { λ r. ⌜ r ≡ headWith (now («data» .entry)) streams coupled mapping ⌝ }
 {
-    let pre_skip = low_16(data, 10);
-    let rate = low_32(data, 12);
-    let gain = gain_of(low_16(data, 16));
+    let pre_skip = low_first::two_at(data, 10) as u16;
+    let rate = low_first::four_at(data, 12) as u32;
+    let gain = gain_of(low_first::two_at(data, 16) as u16);
     OpusHead {
         version: data[8],
         channels: data[9],

@@ -1,5 +1,4 @@
 -- Lengths and numbers of packets by words of eight bytes.
---     eight-told                                            eight numbers read as one
 --     eight-go, go-place, go-fewer, first-goes, last-goes   numbers that go by 0 or 1, eight steps at a time
 --     Sums, sums-..                                         four sums of lengths in one word
 --     Eights, eights-..; fours-.., twos-.., ones-..         eight lengths at a time; where four, two or one are left
@@ -14,34 +13,22 @@ use mathlib.Core.List.{List, [], _∷_}
 use mathlib.Core.Bool.{true, false, not}
 use lib.Bits.{bitAnd, and-block, and-high}
 use lib.Dec.{leb, eqb}
-use lib.ListN.{length, getD, take, length-take}
+use lib.ListN.{length, getD, take, replicate, length-take}
 use borrow.Author.Tests.{leb-true, le-leb, lt-leb, eqb-true, eqb-false, eq-eqb, not-false}
 use Rattle.laws.proofs.Never.{by-test}
 use Rattle.laws.proofs.Every.{both-left}
+use Rattle.low_first.specs.Numbers.{fromLow, numberAt}
+use Rattle.low_first.proofs.Numbers.{number-more}
 use Rattle.opus_size.specs.Size.{mostBytes}
 use Rattle.opus_format.specs.Frames.{total, longest}
 use Rattle.opus_format.proofs.Lengths.{total-more, longest-more, total-most}
 use Rattle.packet_numbers.specs.Numbers.{numbered, keptWell, told}
-use Rattle.packet_numbers.specs.Lanes.{wordAt}
 use Rattle.packet_numbers.proofs.Numbering.{goes, numbered-more, numbered-below}
-
--- ---- eight numbers read as one
-module _ (ks : List ℕ) (at : ℕ) where
-  pub eight-told : {lo hi : ℕ}
-      → lo ≡ getD ks at 0 + 256 * getD ks (at + 1) 0 + 65536 * (getD ks (at + 2) 0 + 256 * getD ks (at + 2 + 1) 0)
-      → hi ≡ getD ks (at + 4) 0 + 256 * getD ks (at + 4 + 1) 0 + 65536 * (getD ks (at + 4 + 2) 0 + 256 * getD ks (at + 4 + 2 + 1) 0)
-      → lo + 4294967296 * hi ≡ wordAt 8 ks at
-  eight-told a b =
-      let e : at + 1 + 1 ≡ at + 2 = omega arith in
-      let f : at + 2 + 1 + 1 ≡ at + 4 = omega arith in
-      let g : at + 4 + 1 + 1 ≡ at + 4 + 2 = omega arith in
-      rw (e, f, g) (omega (arith, a, b))
 
 -- ---- steps of numbers
 -- 254 in each of n bytes
 abbrev evens : ℕ → ℕ
-evens zero = 0
-evens (suc n) = evens n * 2 ^ 8 + 254
+evens n = fromLow (replicate n 254)
 
 -- q behind n bytes
 abbrev behind : ℕ → ℕ → ℕ
@@ -102,7 +89,7 @@ module _ (ks : List ℕ) where
 
 module _ (ks : List ℕ) (bytes : (i : ℕ) → getD ks i 0 < 256) where
   steps-go : (n at r q : ℕ) → at + n < 255 → at + n < length ks → numbered (take (at + 1) ks) ≡ true → bitAnd r (evens n) ≡ 0
-      → r + wordAt n ks at ≡ wordAt n ks (at + 1) + behind n q → numbered (take (at + 1 + n) ks) ≡ true
+      → r + numberAt ks at n ≡ numberAt ks (at + 1) n + behind n q → numbered (take (at + 1 + n) ks) ≡ true
   steps-go zero at r q few h s e f = let same : at + 1 + 0 ≡ at + 1 = omega arith in rw same s
   steps-go (suc n) at r q few h s e f =
       let x = r % 256 in
@@ -114,22 +101,24 @@ module _ (ks : List ℕ) (bytes : (i : ℕ) → getD ks i 0 < 256) where
       let step : x ≤ 1 = step-small x small (omega (arith, bits)) in
       let back : at + 1 - 1 ≡ at = omega arith in
       let low : getD ks at 0 < at + 1 = rw back at (numbered-below ks (at + 1) (omega arith) (omega arith) s) in
-      let one : getD ks (at + 1) 0 ≡ getD ks at 0 + x = omega (arith, bytes (at + 1), f) in
-      let rest : y + wordAt n ks (at + 1) ≡ wordAt n ks (at + 1 + 1) + behind n q = omega (arith, one, f) in
+      let here = number-more ks at n (omega arith) in
+      let next = number-more ks (at + 1) n (omega arith) in
+      let one : getD ks (at + 1) 0 ≡ getD ks at 0 + x = omega (arith, bytes (at + 1), f, here, next) in
+      let rest : y + numberAt ks (at + 1) n ≡ numberAt ks (at + 1 + 1) n + behind n q = omega (arith, one, f, here, next) in
       let more = next-goes ks at x (omega arith) s step one in
       let all = steps-go n (at + 1) y q (omega arith) (omega arith) more (omega (arith, bits)) rest in
       let place : at + 1 + suc n ≡ at + 1 + 1 + n = omega arith in
       rw place all
 
   -- by two words of eight numbers, and what r added to the one wraps to
-  pub eight-go : (at r : ℕ) → at + 9 ≤ length ks → length ks ≤ 48 → {a b : ℕ} → a ≡ wordAt 8 ks (at + 1) → b ≡ wordAt 8 ks at
+  pub eight-go : (at r : ℕ) → at + 9 ≤ length ks → length ks ≤ 48 → {a b : ℕ} → a ≡ numberAt ks (at + 1) 8 → b ≡ numberAt ks at 8
       → (r + b) % 2 ^ 64 ≡ a → not (eqb (bitAnd r 0xFEFEFEFEFEFEFEFE) 0) ≡ false → numbered (take (at + 1) ks) ≡ true
       → numbered (take (at + 9) ks) ≡ true
   eight-go at r h l ea eb f e s =
-      let q = (r + wordAt 8 ks at) / 2 ^ 64 in
+      let q = (r + numberAt ks at 8) / 2 ^ 64 in
       let none = bitAnd r 0xFEFEFEFEFEFEFEFE in
       let place : at + 9 ≡ at + 1 + 8 = omega arith in
-      let sum = wrapped (r + wordAt 8 ks at) (wordAt 8 ks (at + 1)) (rw (ea, eb) at f) in
+      let sum = wrapped (r + numberAt ks at 8) (numberAt ks (at + 1) 8) (rw (ea, eb) at f) in
       rw place (steps-go 8 at r q (omega arith) (omega arith) s (eqb-true none 0 (not-false (eqb none 0) e)) sum)
 
 pub first-goes : (ks : List ℕ) → 1 ≤ length ks → getD ks 0 0 ≡ 0 → numbered (take (0 + 1) ks) ≡ true

@@ -7,39 +7,28 @@ ghost use lib.Bits.{bitAnd};
 ghost use lib.ListN.{length, getD, take};
 ghost use Rattle.opus_format.specs.Frames.{total, longest};
 ghost use Rattle.packet_numbers.specs.Numbers.{numbered, told};
-ghost use Rattle.packet_numbers.specs.Lanes.{wordAt};
 use crate::look;
+use low_first::eight_at;
+use opus_defines::wide;
 
 // No sum of the lengths of a sound collector.
 pub const NOT_SOUND: usize = 65535;
 
 // In each of four lengths the bits of 1,024 and more. 47 lengths below that have a sum below 65,536: four such sums stand side by side in a word.
-const LONG: u64 = 0xFC00FC00FC00FC00;
+const LONG: usize = 0xFC00FC00FC00FC00;
 
 // In each of eight steps from a number to the next all bits but the lowest.
-const STEPS: u64 = 0xFEFEFEFEFEFEFEFE;
-
-fn wide(x: u16) -> u64
-    ensures { λ r. ⌜ (r ≡ x) × (r < 65536) ⌝ }
-{
-    x as u64
-}
-
-fn wide_byte(x: u8) -> u64
-    ensures { λ r. ⌜ (r ≡ x) × (r < 256) ⌝ }
-{
-    x as u64
-}
+const STEPS: usize = 0xFEFEFEFEFEFEFEFE;
 
 // Two lengths as a number, the first one lowest; then four, which are loaded as one word.
-fn two_lengths(ns: &[u16], at: usize) -> u64
+fn two_lengths(ns: &[u16], at: usize) -> usize
     requires { ⌜ at + 2 ≤ length (now ns) ⌝ }
     ensures { λ r. ⌜ (r ≡ getD (now (ns .entry)) at 0 + 65536 * getD (now (ns .entry)) (at + 1) 0) × (r < 4294967296) ⌝ }
 {
     wide(ns[at]) + 65536 * wide(ns[at + 1])
 }
 
-fn four_lengths(ns: &[u16], at: usize) -> u64
+fn four_lengths(ns: &[u16], at: usize) -> usize
     requires { ⌜ at + 4 ≤ length (now ns) ⌝ }
     ensures { λ r. ⌜ r
         ≡ getD (now (ns .entry)) at 0 + 65536 * getD (now (ns .entry)) (at + 1) 0
@@ -48,33 +37,8 @@ fn four_lengths(ns: &[u16], at: usize) -> u64
     two_lengths(ns, at) + 4294967296 * two_lengths(ns, at + 2)
 }
 
-// Two numbers of packets, four, and eight.
-fn two_numbers(ks: &[u8], at: usize) -> u64
-    requires { ⌜ at + 2 ≤ length (now ks) ⌝ }
-    ensures { λ r. ⌜ (r ≡ getD (now (ks .entry)) at 0 + 256 * getD (now (ks .entry)) (at + 1) 0) × (r < 65536) ⌝ }
-{
-    wide_byte(ks[at]) + 256 * wide_byte(ks[at + 1])
-}
-
-fn four_numbers(ks: &[u8], at: usize) -> u64
-    requires { ⌜ at + 4 ≤ length (now ks) ⌝ }
-    ensures sum { λ r. ⌜ r
-        ≡ getD (now (ks .entry)) at 0 + 256 * getD (now (ks .entry)) (at + 1) 0
-        + 65536 * (getD (now (ks .entry)) (at + 2) 0 + 256 * getD (now (ks .entry)) (at + 2 + 1) 0) ⌝ }
-    ensures most { λ r. ⌜ r < 4294967296 ⌝ }
-{
-    two_numbers(ks, at) + 65536 * two_numbers(ks, at + 2)
-}
-
-fn eight_numbers(ks: &[u8], at: usize) -> u64
-    requires { ⌜ at + 8 ≤ length (now ks) ⌝ }
-    ensures { λ r. ⌜ r ≡ wordAt 8 (now (ks .entry)) at ⌝ }
-{
-    four_numbers(ks, at) + 4294967296 * four_numbers(ks, at + 4)
-}
-
 // Whether one of the lengths in a word is 1,024 or more; the contract says what is needed where none is.
-fn over(a: u64) -> bool
+fn over(a: usize) -> bool
     ensures { λ r. ⌜ (r ≡ false → bitAnd a 0xFC00FC00FC00FC00 ≡ 0) ⌝ }
 {
     a & LONG != 0
@@ -86,7 +50,7 @@ fn steps_wrong(ks: &[u8], at: usize) -> bool
     requires { ⌜ (at + 9 ≤ length (now ks)) × (length (now ks) ≤ 48) ⌝ }
     ensures { λ r. ⌜ (r ≡ false → numbered (take (at + 1) (now (ks .entry))) ≡ true → numbered (take (at + 9) (now (ks .entry))) ≡ true) ⌝ }
 {
-    std::num::wrapping_sub_u64(eight_numbers(ks, at + 1), eight_numbers(ks, at)) & STEPS != 0
+    std::num::wrapping_sub_usize(eight_at(ks, at + 1), eight_at(ks, at)) & STEPS != 0
 }
 
 // True only where the numbers begin at 0, and each is the one before it or the next. The eight steps before the last one have a word of their own, in which
@@ -119,7 +83,7 @@ fn total_of(ns: &[u16], n: usize) -> usize
 {
     let m = n - 1;
     let eights = m / 8 * 8;
-    let mut sum: u64 = 0;
+    let mut sum: usize = 0;
     let mut i: usize = 0;
     while i != eights {
         let a = four_lengths(ns, i);
@@ -160,7 +124,7 @@ fn total_of(ns: &[u16], n: usize) -> usize
     }
     let pairs = sum + sum / 4294967296;
     let all = pairs + pairs / 65536 + last;
-    (all % 65536) as usize
+    all % 65536
 }
 
 // The sum of the first n lengths, or NOT_SOUND where a sound collector cannot have these lengths and numbers.

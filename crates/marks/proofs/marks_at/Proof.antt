@@ -12,7 +12,7 @@ returns c =
     let e = k .before in
     let s = e .args .«data» .now in
     c .marks-in .ensures _ (word-long s (e .args .at) (e .pre))
-    (bytes-take 8 _ (bytes-drop (e .args .at) s (record { byte = λ i. k .shared-slice-known .given i .fits }))) (c .before .word-at .ensures)
+    (bytes-take 8 _ (bytes-drop (e .args .at) s (record { byte = λ i. k .shared-slice-known .given i .fits }))) (c .before .eight-at .ensures)
 
 pub marks-at-spec : {M : Type 1} → statement M
 marks-at-spec = tie.close (tie.spec (λ c κs. search needs) (λ c κs. search needs) returns)

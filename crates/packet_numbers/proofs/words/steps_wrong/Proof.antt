@@ -9,8 +9,8 @@ returns : tie.Need-returns
 returns c =
     let k = c .before .before .before in
     let s = k .before in
-    eight-go (s .args .ks .now) (λ i. k .shared-slice-known .given i .fits) (s .args .at) (c .wrapping-sub-u64 .result) (s .pre .0) (s .pre .1)
-    (c .before .before .eight-numbers .ensures) (c .before .eight-numbers2 .ensures) (c .wrapping-sub-u64 .ensures)
+    eight-go (s .args .ks .now) (λ i. k .shared-slice-known .given i .fits) (s .args .at) (c .wrapping-sub-usize .result) (s .pre .0) (s .pre .1)
+    (c .before .before .eight-at .ensures) (c .before .eight-at2 .ensures) (c .wrapping-sub-usize .ensures)
 
 pub steps-wrong-spec : {M : Type 1} → statement M
 steps-wrong-spec =
