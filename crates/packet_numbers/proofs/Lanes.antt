@@ -1,7 +1,7 @@
 -- Lengths and numbers of packets by words of eight bytes.
 --     eight-go, go-place, go-fewer, first-goes, last-goes   numbers that go by 0 or 1, eight steps at a time
---     Sums, sums-..                                         four sums of lengths in one word
---     Eights, eights-..; fours-.., twos-.., ones-..         eight lengths at a time; where four, two or one are left
+--     Sums, sums-..; Eights, eights-..                      four sums of lengths in one word; eight lengths at a time
+--     Held; sums-four, fours-more, twos-more, ones-more     lengths that are there; with four, two or one more
 --     told-quick, told-wrong, told-well                     what is told in the end
 -- Assumes nothing.
 use Prim.Native.Nat.{ℕ, zero, suc, _+_, _*_, _-_, _/_, _%_, _^_, _≤_, _<_}
@@ -127,13 +127,17 @@ first-goes [] h e = absurd (omega arith)
 first-goes (k ∷ ks) h e = rw (eq-eqb k 0 e)
 
 -- ---- sums of lengths
--- lengths below 1,024, four sums of them side by side in one word
+-- four numbers side by side in one word
+abbrev pub lanes : ℕ → ℕ → ℕ → ℕ → ℕ
+lanes x y z v = x + 65536 * y + 4294967296 * (z + 65536 * v)
+
+-- lengths below 1,024, four sums of them in one word
 pub record Sums (ns : List ℕ) (sum i : ℕ) : Type 0 where
   pub a : ℕ
   pub b : ℕ
   pub c : ℕ
   pub d : ℕ
-  pub sum-is : sum ≡ a + 65536 * b + 4294967296 * (c + 65536 * d)
+  pub sum-is : sum ≡ lanes a b c d
   pub all : a + b + c + d ≡ total (take i ns)
   pub most : total (take i ns) ≤ 1023 * i
   pub short : longest (take i ns) < 1024
@@ -141,11 +145,34 @@ pub record Sums (ns : List ℕ) (sum i : ℕ) : Type 0 where
 sums-none : (ns : List ℕ) → Sums ns 0 0
 sums-none ns = record { a = 0; b = 0; c = 0; d = 0; sum-is = omega arith; all = omega arith; most = omega arith; short = omega arith }
 
+-- with one length more, in the lane that is not 0
+sums-more : {ns : List ℕ} {sum i j : ℕ} → Sums ns sum i → i < length ns → j ≡ i + 1 → (x y z v : ℕ) → x + y + z + v ≡ getD ns i 0
+    → getD ns i 0 < 1024 → Sums ns (sum + lanes x y z v) j
+sums-more {ns} {sum} {i} g h p x y z v e l =
+    rw p (record {
+      a = g .a + x;
+      b = g .b + y;
+      c = g .c + z;
+      d = g .d + v;
+      sum-is = omega (arith, g .sum-is);
+      all = omega (arith, g .all, total-more ns i h, e);
+      most = omega (arith, g .most, total-more ns i h, l);
+      short = omega (arith, g .short, longest-more ns i h, l);
+    })
+
+-- said of another sum and another place that are the same
+pub sums-as : {ns : List ℕ} {sum sum′ i j : ℕ} → sum ≡ sum′ → i ≡ j → Sums ns sum′ i → Sums ns sum j
+sums-as e p g = rw (e, ← p) g
+
 length-small : (x : ℕ) → x < 65536 → bitAnd x 0xFC00 ≡ 0 → x < 1024
 length-small x h e =
     let few : x / 1024 < 64 = omega arith in
     let d : x / 1024 % 64 * 1024 ≡ 0 = sym (and-high x 6 10) ∙ e in
     omega (arith, d, mod-eq-of-lt few)
+
+lane-short : (u mask x : ℕ) → x < 65536 → bitAnd (u * 2 ^ 16 + x) (mask * 2 ^ 16 + 0xFC00) ≡ 0 → (x < 1024) × (bitAnd u mask ≡ 0)
+lane-short u mask x h e =
+    let both = sym (and-block 16 u mask x 0xFC00 h (omega arith)) ∙ e in (length-small x h (omega (arith, both)), omega (arith, both))
 
 -- four lengths in a word, none of them long
 pub record Short (x y z v : ℕ) : Type 0 where
@@ -154,97 +181,17 @@ pub record Short (x y z v : ℕ) : Type 0 where
   pub z-short : z < 1024
   pub v-short : v < 1024
 
-lanes-short : (w x y z v : ℕ) → x < 65536 → y < 65536 → z < 65536 → v < 65536 → w ≡ x + 65536 * y + 4294967296 * (z + 65536 * v)
-    → bitAnd w 0xFC00FC00FC00FC00 ≡ 0 → Short x y z v
+lanes-short : (w x y z v : ℕ) → x < 65536 → y < 65536 → z < 65536 → v < 65536 → w ≡ lanes x y z v → bitAnd w 0xFC00FC00FC00FC00 ≡ 0
+    → Short x y z v
 lanes-short w x y z v p q r s e f =
     let g : w ≡ ((v * 2 ^ 16 + z) * 2 ^ 16 + y) * 2 ^ 16 + x = omega (arith, e) in
-    let b1 : bitAnd (((v * 2 ^ 16 + z) * 2 ^ 16 + y) * 2 ^ 16 + x) (0xFC00FC00FC00 * 2 ^ 16 + 0xFC00)
-    ≡ bitAnd ((v * 2 ^ 16 + z) * 2 ^ 16 + y) 0xFC00FC00FC00 * 2 ^ 16 + bitAnd x 0xFC00 =
-    and-block 16 ((v * 2 ^ 16 + z) * 2 ^ 16 + y) 0xFC00FC00FC00 x 0xFC00 p (omega arith) in
-    let b2 : bitAnd ((v * 2 ^ 16 + z) * 2 ^ 16 + y) (0xFC00FC00 * 2 ^ 16 + 0xFC00) ≡ bitAnd (v * 2 ^ 16 + z) 0xFC00FC00 * 2 ^ 16 + bitAnd y 0xFC00 =
-    and-block 16 (v * 2 ^ 16 + z) 0xFC00FC00 y 0xFC00 q (omega arith) in
-    let b3 : bitAnd (v * 2 ^ 16 + z) (0xFC00 * 2 ^ 16 + 0xFC00) ≡ bitAnd v 0xFC00 * 2 ^ 16 + bitAnd z 0xFC00 =
-    and-block 16 v 0xFC00 z 0xFC00 r (omega arith) in
-    let f1 = rw g at f in
-    record {
-      x-short = length-small x p (omega (arith, b1, f1));
-      y-short = length-small y q (omega (arith, b1, b2, f1));
-      z-short = length-small z r (omega (arith, b1, b2, b3, f1));
-      v-short = length-small v s (omega (arith, b1, b2, b3, f1));
-    }
+    let a = lane-short ((v * 2 ^ 16 + z) * 2 ^ 16 + y) 0xFC00FC00FC00 x p (rw g at f) in
+    let b = lane-short (v * 2 ^ 16 + z) 0xFC00FC00 y q (a .1) in
+    let c = lane-short v 0xFC00 z r (b .1) in
+    record { x-short = a .0; y-short = b .0; z-short = c .0; v-short = length-small v s (c .1) }
 
--- with the lengths behind the first i ones, of which there are k
-sums-more : {ns : List ℕ} {sum i : ℕ} → Sums ns sum i → (x y z v w j k : ℕ) → w ≡ x + 65536 * y + 4294967296 * (z + 65536 * v)
-    → total (take j ns) ≡ total (take i ns) + (x + y + z + v) → longest (take j ns) < 1024 → x + y + z + v ≤ 1023 * k → j ≡ i + k
-    → Sums ns (sum + w) j
-sums-more g x y z v w j k e t l h p =
-    record {
-      a = g .a + x;
-      b = g .b + y;
-      c = g .c + z;
-      d = g .d + v;
-      sum-is = omega (arith, g .sum-is, e);
-      all = omega (arith, g .all, t);
-      most = omega (arith, g .most, t, p, h);
-      short = l;
-    }
-
-module _ (ns : List ℕ) where
-  pub sums-at : {sum i j : ℕ} → Sums ns sum i → i ≡ j → Sums ns sum j
-  sums-at g e = rw (← e) g
-
-  pub sums-of : {sum sum′ i : ℕ} → sum ≡ sum′ → Sums ns sum′ i → Sums ns sum i
-  sums-of e g = rw e g
-
-  pub sums-one : {sum i w : ℕ} → Sums ns sum i → i < length ns → getD ns i 0 < 65536 → w ≡ getD ns i 0 → bitAnd w 0xFC00FC00FC00FC00 ≡ 0
-      → Sums ns (sum + w) (i + 1)
-  sums-one {sum} {i} {w} g h p e f =
-      let x = getD ns i 0 in
-      let k = lanes-short w x 0 0 0 p (omega arith) (omega arith) (omega arith) (omega (arith, e)) f in
-      sums-more g x 0 0 0 w (i + 1) 1 (omega (arith, e)) (omega (arith, total-more ns i h)) (omega (arith, longest-more ns i h, g .short, k .x-short))
-      (omega (arith, k .x-short)) refl
-
-  module _ (words : (i : ℕ) → getD ns i 0 < 65536) where
-    pub sums-two : {sum i w : ℕ} → Sums ns sum i → i + 2 ≤ length ns → w ≡ getD ns i 0 + 65536 * getD ns (i + 1) 0
-        → bitAnd w 0xFC00FC00FC00FC00 ≡ 0 → Sums ns (sum + w) (i + 2)
-    sums-two {sum} {i} {w} g h e f =
-        let x = getD ns i 0 in
-        let y = getD ns (i + 1) 0 in
-        let k = lanes-short w x y 0 0 (words i) (words (i + 1)) (omega arith) (omega arith) (omega (arith, e)) f in
-        let p : i + 2 ≡ i + 1 + 1 = omega arith in
-        sums-more g x y 0 0 w (i + 2) 2 (omega (arith, e))
-        (rw p (omega (arith, total-more ns i (omega arith), total-more ns (i + 1) (omega arith))))
-        (rw p (omega (arith, longest-more ns i (omega arith), longest-more ns (i + 1) (omega arith), g .short, k .x-short, k .y-short)))
-        (omega (arith, k .x-short, k .y-short)) refl
-
-    pub sums-four : {sum i w : ℕ} → Sums ns sum i → i + 4 ≤ length ns
-        → w ≡ getD ns i 0 + 65536 * getD ns (i + 1) 0 + 4294967296 * (getD ns (i + 2) 0 + 65536 * getD ns (i + 2 + 1) 0)
-        → bitAnd w 0xFC00FC00FC00FC00 ≡ 0 → Sums ns (sum + w) (i + 4)
-    sums-four {sum} {i} {w} g h e f =
-        let x = getD ns i 0 in
-        let y = getD ns (i + 1) 0 in
-        let z = getD ns (i + 2) 0 in
-        let v = getD ns (i + 2 + 1) 0 in
-        let k = lanes-short w x y z v (words i) (words (i + 1)) (words (i + 2)) (words (i + 2 + 1)) e f in
-        let p : i + 4 ≡ i + 2 + 1 + 1 = omega arith in
-        let q : i + 1 + 1 ≡ i + 2 = omega arith in
-        let t = rw q at (total-more ns (i + 1) (omega arith)) in
-        let l = rw q at (longest-more ns (i + 1) (omega arith)) in
-        sums-more g x y z v w (i + 4) 4 e
-        (rw p (omega (arith, total-more ns i (omega arith), t, total-more ns (i + 2) (omega arith), total-more ns (i + 2 + 1) (omega arith))))
-        (rw p (omega (
-          arith,
-          longest-more ns i (omega arith),
-          l,
-          longest-more ns (i + 2) (omega arith),
-          longest-more ns (i + 2 + 1) (omega arith),
-          g .short,
-          k .x-short,
-          k .y-short,
-          k .z-short,
-          k .v-short,
-        )))
-        (omega (arith, k .x-short, k .y-short, k .z-short, k .v-short)) refl
+one-short : (w : ℕ) → w < 65536 → bitAnd w 0xFC00FC00FC00FC00 ≡ 0 → w < 1024
+one-short w p f = lanes-short w w 0 0 0 p (omega arith) (omega arith) (omega arith) (omega arith) f .x-short
 
 -- eight lengths at a time, of the first m
 pub record Eights (ns : List ℕ) (m sum i : ℕ) : Type 0 where
@@ -262,34 +209,7 @@ module _ {ns : List ℕ} {m sum i : ℕ} (g : Eights ns m sum i) (f : i ≡ m / 
 
   pub eights-more : {sum′ : ℕ} → Sums ns sum′ (i + 4 + 4) → Eights ns m sum′ (i + 8)
   eights-more s =
-      record {
-        q = g .q + 1;
-        i-is = omega (arith, g .i-is);
-        within = let h : (g .q ≡ m / 8 → ⊥) = λ e. f (omega (arith, g .i-is, e)) in omega (arith, g .within, h);
-        sums = sums-at ns s (omega arith);
-      }
-
--- where four, two or one of the first m are left, and where not
-pub fours-odd : (m : ℕ) → m / 4 % 2 ≡ 1 → m / 8 * 8 + 4 ≡ m / 4 * 4
-fours-odd m e = let h : m / 8 ≡ m / 4 / 2 = omega arith in omega (arith, h, e)
-
-pub fours-even : (m : ℕ) → (m / 4 % 2 ≡ 1 → ⊥) → m / 8 * 8 ≡ m / 4 * 4
-fours-even m e = let h : m / 8 ≡ m / 4 / 2 = omega arith in omega (arith, h, e)
-
-pub twos-odd : (m : ℕ) → m / 2 % 2 ≡ 1 → m / 4 * 4 + 2 ≡ m / 2 * 2
-twos-odd m e = let h : m / 4 ≡ m / 2 / 2 = omega arith in omega (arith, h, e)
-
-pub twos-even : (m : ℕ) → (m / 2 % 2 ≡ 1 → ⊥) → m / 4 * 4 ≡ m / 2 * 2
-twos-even m e = let h : m / 4 ≡ m / 2 / 2 = omega arith in omega (arith, h, e)
-
-pub ones-odd : (m : ℕ) → m % 2 ≡ 1 → m / 2 * 2 ≡ m - 1
-ones-odd m e = omega (arith, e)
-
-pub ones-next : (m : ℕ) → m % 2 ≡ 1 → m - 1 + 1 ≡ m
-ones-next m e = omega (arith, e)
-
-pub ones-even : (m : ℕ) → (m % 2 ≡ 1 → ⊥) → m / 2 * 2 ≡ m
-ones-even m e = omega (arith, e)
+      record { q = g .q + 1; i-is = omega (arith, g .i-is); within = omega (arith, g .i-is, eights-left); sums = sums-as refl (omega arith) s }
 
 -- ---- the four sums put together
 module _ {ns : List ℕ} {sum i : ℕ} (g : Sums ns sum i) (few : i ≤ 48) where
@@ -316,16 +236,61 @@ module _ {ns : List ℕ} {sum i : ℕ} (g : Sums ns sum i) (few : i ≤ 48) wher
       let v : y / 65536 ≡ u = omega (arith, s, g .all, g .most) in
       omega (arith, s, v, g .all)
 
--- with the last length, which stands by itself
-pub sums-last : {ns : List ℕ} {sum n w : ℕ} → Sums ns sum (n - 1) → 1 ≤ n → n ≤ length ns → length ns ≤ 48 → getD ns (n - 1) 0 < 65536
-    → w ≡ getD ns (n - 1) 0 → bitAnd w 0xFC00FC00FC00FC00 ≡ 0
-    → (longest (take n ns) < 1024) × ((sum + sum / 4294967296 + (sum + sum / 4294967296) / 65536 + w) % 65536 ≡ total (take n ns))
-sums-last {ns} {sum} {n} {w} g some h few p e f =
-    let k = lanes-short w (getD ns (n - 1) 0) 0 0 0 p (omega arith) (omega arith) (omega arith) (omega (arith, e)) f in
-    let q : n - 1 + 1 ≡ n = omega arith in
-    let l = rw q at (longest-more ns (n - 1) (omega arith)) in
-    let t = rw q at (total-more ns (n - 1) (omega arith)) in
-    (omega (arith, l, g .short, k .x-short), omega (arith, sums-all g (omega arith) w (omega (arith, e, k .x-short)), t, e))
+-- lengths that fit 16 bits, more than m and at most 48
+pub record Held (ns : List ℕ) (m : ℕ) : Type 0 where
+  pub words : (i : ℕ) → getD ns i 0 < 65536
+  pub within : m < length ns
+  pub few : length ns ≤ 48
+
+module _ {ns : List ℕ} {m : ℕ} (k : Held ns m) where
+  pub sums-four : {sum i w : ℕ} → Sums ns sum i → i + 4 ≤ m
+      → w ≡ lanes (getD ns i 0) (getD ns (i + 1) 0) (getD ns (i + 2) 0) (getD ns (i + 2 + 1) 0) → bitAnd w 0xFC00FC00FC00FC00 ≡ 0
+      → Sums ns (sum + w) (i + 4)
+  sums-four {sum} {i} {w} g h e f =
+      let x = getD ns i 0 in
+      let y = getD ns (i + 1) 0 in
+      let z = getD ns (i + 2) 0 in
+      let v = getD ns (i + 2 + 1) 0 in
+      let l = k .within in
+      let s = lanes-short w x y z v (k .words i) (k .words (i + 1)) (k .words (i + 2)) (k .words (i + 2 + 1)) e f in
+      let one : Sums ns (sum + lanes x 0 0 0) (i + 1) = sums-more g (omega arith) refl x 0 0 0 (omega arith) (s .x-short) in
+      let two : Sums ns (sum + lanes x 0 0 0 + lanes 0 y 0 0) (i + 2) = sums-more one (omega arith) (omega arith) 0 y 0 0 (omega arith) (s .y-short) in
+      let three = sums-more two (omega arith) refl 0 0 z 0 (omega arith) (s .z-short) in
+      sums-as (omega (arith, e)) refl (sums-more three (omega arith) (omega arith) 0 0 0 v (omega arith) (s .v-short))
+
+  -- where four, two or one of the first m are left
+  pub fours-more : {sum w : ℕ} → Sums ns sum (m / 8 * 8) → m / 4 % 2 ≡ 1 → let i = m / 8 * 8 in
+      w ≡ lanes (getD ns i 0) (getD ns (i + 1) 0) (getD ns (i + 2) 0) (getD ns (i + 2 + 1) 0) → bitAnd w 0xFC00FC00FC00FC00 ≡ 0
+      → Sums ns (sum + w) (m / 4 * 4)
+  fours-more g t e f = sums-as refl (omega (arith, t)) (sums-four g (omega (arith, t)) e f)
+
+  pub twos-more : {sum w : ℕ} → Sums ns sum (m / 4 * 4) → m / 2 % 2 ≡ 1 → w ≡ getD ns (m / 4 * 4) 0 + 65536 * getD ns (m / 4 * 4 + 1) 0
+      → bitAnd w 0xFC00FC00FC00FC00 ≡ 0 → Sums ns (sum + w) (m / 2 * 2)
+  twos-more {sum} {w} g t e f =
+      let i = m / 4 * 4 in
+      let x = getD ns i 0 in
+      let y = getD ns (i + 1) 0 in
+      let l = k .within in
+      let s = lanes-short w x y 0 0 (k .words i) (k .words (i + 1)) (omega arith) (omega arith) (omega (arith, e)) f in
+      let one : Sums ns (sum + lanes x 0 0 0) (i + 1) = sums-more g (omega arith) refl x 0 0 0 (omega arith) (s .x-short) in
+      sums-as (omega (arith, e)) refl (sums-more one (omega arith) (omega arith) 0 y 0 0 (omega arith) (s .y-short))
+
+  pub ones-more : {sum w : ℕ} → Sums ns sum (m / 2 * 2) → m % 2 ≡ 1 → w ≡ getD ns (m - 1) 0 → bitAnd w 0xFC00FC00FC00FC00 ≡ 0
+      → Sums ns (sum + w) m
+  ones-more {sum} {w} g t e f =
+      let l = one-short w (omega (arith, e, k .words (m - 1))) f in
+      let before : Sums ns sum (m - 1) = sums-as refl (omega (arith, t)) g in
+      sums-as (omega arith) refl (sums-more before (omega (arith, k .within)) (omega (arith, t)) w 0 0 0 (omega (arith, e)) (omega (arith, e, l)))
+
+  -- with the last length, which stands by itself
+  pub sums-last : {sum w : ℕ} → Sums ns sum m → (n : ℕ) → n ≡ m + 1 → w ≡ getD ns m 0 → bitAnd w 0xFC00FC00FC00FC00 ≡ 0
+      → (longest (take n ns) < 1024) × ((sum + sum / 4294967296 + (sum + sum / 4294967296) / 65536 + w) % 65536 ≡ total (take n ns))
+  sums-last {sum} {w} g n p e f =
+      let l = one-short w (omega (arith, e, k .words m)) f in
+      rw p (
+        omega (arith, longest-more ns m (k .within), g .short, l, e),
+        omega (arith, sums-all g (omega (arith, k .within, k .few)) w l, total-more ns m (k .within), e),
+      )
 
 -- ---- what is told
 pub told-quick : (ns ks : List ℕ) → {t : ℕ} → (longest ns < 1024) × (t ≡ total ns) → numbered ks ≡ true → t ≡ told ns ks

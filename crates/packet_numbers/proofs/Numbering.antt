@@ -11,7 +11,7 @@ use native.Mathlib.Numerals.{add-one}
 use native.Mathlib.Omega.{arith}
 use mathlib.Core.Path.{_≡_, refl, sym, ap, _∙_}
 use mathlib.Core.List.{List, [], _∷_}
-use mathlib.Core.Bool.{Bool, true, false, _&&_, _||_}
+use mathlib.Core.Bool.{Bool, true, false, _&&_, _||_, and-true, and-assoc}
 use lib.Bits.{bitOr, or-lt, or-comm, or-add-and, and-le-r}
 use lib.Dec.{leb, eqb}
 use lib.ListN.{length, getD, take, set, replicate, length-set}
@@ -41,20 +41,12 @@ or-small a b =
 abbrev pub goes : ℕ → ℕ → Bool
 goes b n = eqb n b || eqb n (b + 1)
 
-and-true : (a : Bool) → a && true ≡ a
-and-true true = refl
-and-true false = refl
-
-and-assoc : (a b c : Bool) → a && (b && c) ≡ (a && b) && c
-and-assoc true b c = refl
-and-assoc false b c = refl
-
 steps-more : (k : ℕ) (ks : List ℕ) (i : ℕ) → i < length ks
     → steps k (take (suc i) ks) ≡ steps k (take i ks) && goes (getD (k ∷ ks) i 0) (getD ks i 0)
 steps-more k [] i h = absurd (omega arith)
 steps-more k (n ∷ ns) zero h = and-true (goes k n)
 steps-more k (n ∷ ns) (suc i) h =
-    rw (steps-more n ns i (omega arith)) (and-assoc (goes k n) (steps n (take i ns)) (goes (getD (n ∷ ns) i 0) (getD ns i 0)))
+    rw (steps-more n ns i (omega arith)) (sym (and-assoc (goes k n) (steps n (take i ns)) (goes (getD (n ∷ ns) i 0) (getD ns i 0))))
 
 goes-near : (b n : ℕ) → goes b n ≡ true → n ≤ b + 1
 goes-near b n g =
@@ -77,7 +69,7 @@ numbered-more [] i some h = absurd (omega arith)
 numbered-more (k ∷ ks) zero some h = absurd (omega arith)
 numbered-more (k ∷ ks) (suc i) some h =
     let e : suc i - 1 ≡ i = omega arith in
-    rw (e, add-one, steps-more k ks i (omega arith)) (and-assoc (eqb k 0) (steps k (take i ks)) (goes (getD (k ∷ ks) i 0) (getD ks i 0)))
+    rw (e, add-one, steps-more k ks i (omega arith)) (sym (and-assoc (eqb k 0) (steps k (take i ks)) (goes (getD (k ∷ ks) i 0) (getD ks i 0))))
 
 pub numbered-below : (ks : List ℕ) (i : ℕ) → 1 ≤ i → i ≤ length ks → numbered (take i ks) ≡ true → getD ks (i - 1) 0 < i
 unfolding numbered
