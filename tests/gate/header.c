@@ -1,5 +1,6 @@
-/* Asks the archive through include/aveluafi.h for every field of every struct, each of a value of its own, and calls every call once; then every call
- * that takes a pointer and a count, with NULL and 0. A line for each: 'ok' or 'FAILED' and what it was. Ends with 1 where one failed. */
+/* Asks the archive through include/aveluafi.h for every field of every struct, each of a value of its own, and calls every call once; besides, the cases at
+ * the edges that no program reaches (the others are in the folder edges); then every call that takes a pointer and a count, with NULL and 0. A line for each:
+ * 'ok' or 'FAILED' and what it was. Ends with 1 where one failed. */
 #include "aveluafi.h"
 
 long write(int file, const void *bytes, size_t count);
@@ -249,6 +250,39 @@ static void cutting(void) {
     cuts_to("out_many unsound, all wrong", &rp, 0, 49, AVELUAFI_MOST_PACKET + 1, AVELUAFI_INVALID_STATE, 0);
 }
 
+/* ---- all frames held, and ranges of them */
+
+/* What an output answered and left in `out`, which was 238 throughout: the packet expected, or nothing beside a refusal. */
+static void written_as(const char *what, long found, long number, const uint8_t *expected) {
+    field(what, ".number", found, number);
+    size_t wrong = 0;
+    for (size_t i = 0; i < sizeof out; i++)
+        wrong += out[i] != ((long)i < number ? expected[i] : UNSET);
+    field(what, " bytes", (long)wrong, 0);
+}
+
+static uint8_t *unset(void) {
+    for (size_t i = 0; i < sizeof out; i++)
+        out[i] = UNSET;
+    return out;
+}
+
+/* Document 01's two packets; replay, which has the call with a delimiting and padding, answers the same (edges/collecting.txt). */
+static void writing(void) {
+    static const uint8_t first[] = {0, 0xAA}, second[] = {0, 0xBB, 0xCC}, both[] = {2, 1, 0xAA, 0xBB, 0xCC};
+    struct aveluafi_repacketizer rp;
+    aveluafi_repacketizer_init(&rp);
+    is("repacketizer_cat 00 AA", aveluafi_repacketizer_cat(&rp, first, sizeof first, store, sizeof store).number, AVELUAFI_OK);
+    is("repacketizer_cat 00 BB CC", aveluafi_repacketizer_cat(&rp, second, sizeof second, store, sizeof store).number, AVELUAFI_OK);
+    written_as("repacketizer_out of both", aveluafi_repacketizer_out(&rp, store, sizeof store, unset(), 5), 5, both);
+    written_as("repacketizer_out, a byte too few", aveluafi_repacketizer_out(&rp, store, sizeof store, unset(), 4), AVELUAFI_BUFFER_TOO_SMALL, NULL);
+    written_as("repacketizer_out_range 1 2", aveluafi_repacketizer_out_range(&rp, store, sizeof store, 1, 2, unset(), 3), 3, second);
+    written_as("repacketizer_out_range 0 1", aveluafi_repacketizer_out_range(&rp, store, sizeof store, 0, 1, unset(), 3), 2, first);
+    written_as("repacketizer_out_range 1 1", aveluafi_repacketizer_out_range(&rp, store, sizeof store, 1, 1, unset(), 3), AVELUAFI_BAD_ARG, NULL);
+    written_as("repacketizer_out_range 0 3", aveluafi_repacketizer_out_range(&rp, store, sizeof store, 0, 3, unset(), 3), AVELUAFI_BAD_ARG, NULL);
+    written_as("repacketizer_out_range -1 1", aveluafi_repacketizer_out_range(&rp, store, sizeof store, -1, 1, unset(), 3), AVELUAFI_BAD_ARG, NULL);
+}
+
 static void in_place(void) {
     for (size_t i = 0; i < sizeof packet; i++)
         out[i] = packet[i];
@@ -343,6 +377,12 @@ static void judging(void) {
     is("NULL packet_judge", v.number == 0 && v.verdict == AVELUAFI_UNREADABLE && v.rule == 1 && v.place == 0, 1);
 }
 
+/* The record, or none, from a start place on. */
+static void finds(const char *what, const uint8_t *data, size_t n, size_t start, struct aveluafi_record must) {
+    struct aveluafi_record r = aveluafi_next_record(data, n, start);
+    is(what, r.number == must.number && r.line == must.line && r.place == must.place && r.length == must.length && r.passed == must.passed, 1);
+}
+
 static void captures(void) {
     static const uint8_t file[] = {1, 2, 3, 4, 5, 0x4B, 0x9D, 41, 0, 6, 20, 21, 22, 23, 24, 25, 7};
     struct aveluafi_record r = aveluafi_next_record(file, sizeof file, 2);
@@ -356,6 +396,25 @@ static void captures(void) {
     r = aveluafi_next_record(file, sizeof file, 18);
     is("record.number refused", r.number, AVELUAFI_BAD_ARG);
     is("record refused is zeros", r.line == 0 && r.place == 0 && r.length == 0 && r.passed == 0, 1);
+
+    /* start places (document 02, M-101): a byte, a record of two bytes, a byte that could begin a mark */
+    typedef struct aveluafi_record record;
+    static const uint8_t one[9] = {0, 0x4B, 0x9D, 1, 0, 2, 0xAA, 0xBB, 0x4B};
+    const record past = {AVELUAFI_BAD_ARG, 0, 0, 0, 0};
+    finds("record from 0", one, sizeof one, 0, (record){0, 1, 1, 2, 1});
+    finds("record from its mark", one, sizeof one, 1, (record){0, 1, 1, 2, 0});
+    finds("record from within it", one, sizeof one, 2, (record){0, 0, 9, 0, 7});
+    finds("record from behind it", one, sizeof one, 8, (record){0, 0, 9, 0, 1});
+    finds("record from the end", one, sizeof one, 9, (record){0, 0, 9, 0, 0});
+    finds("record from past the end", one, sizeof one, 10, past);
+    finds("record from the greatest place", one, sizeof one, (size_t)-1, past);
+    finds("record in nothing", one, 0, 0, (record){0, 0, 0, 0, 0});
+    const uint8_t *lent = one + aveluafi_next_record(one, sizeof one, 0).place + AVELUAFI_RECORD_HEAD;
+    is("record's packet behind its head", lent[0] == 0xAA && lent[1] == 0xBB, 1);
+    /* the longest packet, and the same without its last byte */
+    static const uint8_t full[AVELUAFI_MOST_RECORD] = {0x4B, 0x9D, 7, 255, 255};
+    finds("record of 65,535 bytes", full, sizeof full, 0, (record){0, 7, 0, 65535, 0});
+    finds("record of 65,535 bytes, cut", full, sizeof full - 1, 0, (record){0, 0, 65539, 0, 65539});
 }
 
 /* ---- compaction by shares */
@@ -695,6 +754,7 @@ int main(void) {
     reading();
     collecting();
     cutting();
+    writing();
     in_place();
     streams();
     judging();

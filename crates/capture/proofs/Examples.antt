@@ -59,6 +59,15 @@ empty : packetAt sample 19 ≡ []
 unfolding packetAt packetLength
 empty = refl
 
+-- nor where another byte stands than a mark's first, nor past the end
+no-mark : packetAt sample 0 ≡ []
+unfolding packetAt packetLength
+no-mark = refl
+
+behind-all : packetAt sample 25 ≡ []
+unfolding packetAt packetLength
+behind-all = refl
+
 -- the first answer's bytes: the byte passed over, and the record's
 first-bytes : pieces sample (nextRecord sample 0) ≡ 7 ∷ 0x4B ∷ 0x9D ∷ 65 ∷ 0 ∷ 2 ∷ 8 ∷ 9 ∷ []
 unfolding pieces nextRecord recordFrom before packetLength recordBytes
