@@ -19,7 +19,7 @@ use Rattle.io.specs.Digits.{glyph, digits, Fewest}
 use Rattle.show.specs.Text.{places, decimal}
 use Rattle.show.proofs.Laid.{Laid, front-counts}
 
-pub digits-length : (b k n : ℕ) → length (digits b k n) ≡ k
+digits-length : (b k n : ℕ) → length (digits b k n) ≡ k
 digits-length b zero n = refl
 digits-length b (suc k) n =
     omega (arith, length-append (digits b k (n / b)) (glyph (n % b) ∷ []), digits-length b k (n / b))

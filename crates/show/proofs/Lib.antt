@@ -2,5 +2,4 @@ pub mod Laid
 pub mod Digits
 pub mod Signed
 pub mod Refusals
-pub mod Hex
 pub mod Examples

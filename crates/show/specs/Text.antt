@@ -15,10 +15,6 @@ places (suc most) n = cond (ltb n 10) 1 (suc (places most (n / 10)))
 unfoldable pub decimal : ℕ → List ℕ
 decimal n = digits 10 (places n n) n
 
--- a byte in hexadecimal, two digits
-unfoldable pub hexByte : ℕ → List ℕ
-hexByte b = digits 16 2 b
-
 -- a signed number; 45 is the minus sign
 unfoldable pub integer : ℤ → List ℕ
 integer (pos n) = decimal n

@@ -1,11 +1,11 @@
-// Text, numbers and bytes for the programs: written to standard output, and put into a buffer by functions that are proved to the byte.
+// Text and numbers for the programs: written to standard output, and put into a buffer by functions that are proved to the byte.
 ghost use mathlib.Core.Path.{_≡_};
 ghost use Prim.Native.Nat.{_+_, _≤_};
 ghost use lib.IntN.{natAbs};
 ghost use lib.ListN.{length};
 ghost use lib.Seq.{sets};
 ghost use Rattle.io.specs.Counts.{Counts};
-ghost use Rattle.show.specs.Text.{decimal as Text·decimal, hexByte, integer, refusal};
+ghost use Rattle.show.specs.Text.{decimal as Text·decimal, integer, refusal};
 use libc::STDOUT_FILENO;
 
 pub fn text(s: &[u8]) {
@@ -16,35 +16,6 @@ pub fn decimal(n: usize) {
     let mut out = [0u8; 20];
     let k = decimal_text(&mut out, n);
     text(&out[..k]);
-}
-
-// A number that a call returned.
-pub fn number(x: i32) {
-    let mut out = [0u8; 11];
-    let k = number_text(&mut out, x);
-    text(&out[..k]);
-}
-
-// A byte in hexadecimal.
-pub fn byte(b: u8) {
-    let mut out = [0u8; 2];
-    let k = byte_text(&mut out, b);
-    text(&out[..k]);
-}
-
-// The first n bytes, or all where there are fewer.
-pub fn front(s: &[u8], n: usize) {
-    let mut i: usize = 0;
-    while i < s.len() {
-        if i < n {
-            byte(s[i]);
-        }
-        i += 1;
-    }
-}
-
-pub fn bytes(s: &[u8]) {
-    front(s, s.len());
 }
 
 // ---- put into a buffer at a place; the answer is the place behind
@@ -75,17 +46,6 @@ pub fn decimal_text(out: &mut [u8; 20], n: usize) -> usize
     ensures within { λ r. ⌜ Counts r (now (out .exit)) ⌝ }
 {
     put_decimal(out, 0, n)
-}
-
-// A byte in hexadecimal, two digits, at the front of `out`.
-pub fn byte_text(out: &mut [u8; 2], b: u8) -> usize
-    ensures bytes { λ _. ⌜ now (out .exit) ≡ sets (now (out .entry)) 0 (hexByte b) ⌝ }
-    ensures next { λ r. ⌜ r ≡ length (hexByte b) ⌝ }
-    ensures within { λ r. ⌜ Counts r (now (out .exit)) ⌝ }
-{
-    let mut digits = [0u8; 16];
-    let k = io::hex(b as u64, 2, &mut digits);
-    put_text(out, 0, &digits[..k])
 }
 
 fn magnitude(x: i32) -> usize
