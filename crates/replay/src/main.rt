@@ -2,30 +2,80 @@
 // The buffers have a fixed size, however long the input is. A line is built in the output buffer, which has room for the longest, so that a
 // case that turns out to be cut short can take back what it has put there.
 use replay_collector::collect_case;
+use replay_collector::packet_case;
 use replay_collector::places_case;
-use replay_compaction::choice_case;
-use replay_compaction::share_case;
-use replay_heads::read_case;
-use replay_heads::write_case;
-use replay_in_place::in_place_case;
-use replay_io::input::ByteAt;
+use replay_collector::range_case;
 use replay_io::input::Cursor;
 use replay_io::input::Line;
-use replay_io::input::byte;
+use replay_io::input::NumberAt;
+use replay_io::input::Taken;
+use replay_io::input::fields;
+use replay_io::input::one;
 use replay_io::output::Flush;
 use replay_io::output::flushed;
 use replay_io::output::put;
 use replay_io::output::text;
 use replay_io::output::written;
-use replay_judge::judge_case;
-use replay_numbers::packet_case;
-use replay_numbers::range_case;
 use replay_orders::orders_case;
-use replay_reading::reading_case;
 use replay_streams::join_case;
-use replay_streams::take_case;
 
-// Which crate answers a kind. Only the collector, compaction, the streams and a header to be written need the store.
+// ---- kinds whose fields are read at once
+
+// The form of a kind's fields (replay_io); F is no field, and makes an unknown kind malformed.
+fn form(kind: usize) -> u64 {
+    match kind {
+        1 | 11 | 12 | 24 => 0x1B00000000,
+        3 | 26 => 0xAB00000000,
+        4 | 27 => 0xB000000000,
+        5 => 0x4AB0000000,
+        6 | 10 | 14 => 0x4B00000000,
+        7 => 0x4100000000,
+        8 | 9 => 0xEB00000000,
+        13 | 16 => 0x44B0000000,
+        15 => 0x444B000000,
+        23 => 0x44AB000000,
+        25 => 0xDDAB000000,
+        28 => 0x11242111CA,
+        _ => 0xF000000000,
+    }
+}
+
+// The line of a kind, by the crate that answers it.
+fn plain_line(
+    kind: usize,
+    ns: &[usize; 10],
+    work: &mut [u8],
+    store: &mut [u8],
+    out: &mut [u8],
+    at: usize,
+) -> usize {
+    match kind {
+        3..=6 | 13..=16 => replay_in_place::line(kind, ns, work, out, at),
+        23 => replay_streams::take_line(ns, work, store, out, at),
+        25 | 26 => replay_compaction::line(kind, ns, work, store, out, at),
+        27 | 28 => replay_heads::line(kind, ns, work, store, out, at),
+        _ => replay_reading::line(kind, ns, work, out, at),
+    }
+}
+
+fn plain_case(
+    input: &mut [u8],
+    c: Cursor,
+    work: &mut [u8],
+    store: &mut [u8],
+    out: &mut [u8],
+    at: usize,
+    kind: usize,
+) -> Line {
+    let mut ns = [0usize; 10];
+    let Taken::Whole(d) = fields(input, c, form(kind), &mut ns, work) else {
+        return Line::Malformed;
+    };
+    Line::Is(d, plain_line(kind, &ns, work, store, out, at))
+}
+
+// ---- all kinds
+
 fn case(
     input: &mut [u8],
     c: Cursor,
@@ -33,42 +83,30 @@ fn case(
     store: &mut [u8],
     out: &mut [u8],
     at: usize,
-    kind: u8,
+    kind: usize,
 ) -> Line {
     match kind {
         2 => collect_case(input, c, work, store, out, at),
-        17 => places_case(input, c, work, store, out, at, false),
-        18 => places_case(input, c, work, store, out, at, true),
+        17 | 18 => places_case(input, c, work, store, out, at, kind),
         19 => packet_case(input, c, work, store, out, at),
         20 => range_case(input, c, work, store, out, at),
         21 => orders_case(input, c, work, store, out, at),
         22 => join_case(input, c, work, store, out, at),
-        23 => take_case(input, c, work, store, out, at),
-        3..=6 | 13..=16 => in_place_case(input, c, work, out, at, kind),
-        24 => judge_case(input, c, work, out, at),
-        25 => share_case(input, c, work, store, out, at),
-        26 => choice_case(input, c, work, store, out, at),
-        27 => read_case(input, c, work, out, at),
-        28 => write_case(input, c, work, store, out, at),
-        _ => reading_case(input, c, work, out, at, kind),
+        _ => plain_case(input, c, work, store, out, at, kind),
     }
 }
 
 // A turn: whether the program goes on, and where the input and the output do.
 struct Turn {
     on: bool,
-    next: usize,
-    end: usize,
-    came: usize,
+    next: Cursor,
     out: usize,
 }
 
-fn last(at: usize) -> Turn {
+fn last(c: Cursor, at: usize) -> Turn {
     Turn {
         on: false,
-        next: 0,
-        end: 0,
-        came: 0,
+        next: c,
         out: at,
     }
 }
@@ -77,13 +115,11 @@ fn last(at: usize) -> Turn {
 fn turned(out: &mut [u8], c: Cursor, at: usize) -> Turn {
     let end = put(out, at, b'\n');
     let Flush::To(place) = flushed(out, end) else {
-        return last(0);
+        return last(c, 0);
     };
     Turn {
         on: true,
-        next: c.at,
-        end: c.end,
-        came: c.came,
+        next: c,
         out: place,
     }
 }
@@ -91,16 +127,12 @@ fn turned(out: &mut [u8], c: Cursor, at: usize) -> Turn {
 // Answers one case, if the input has not ended.
 fn answer(input: &mut [u8], work: &mut [u8], store: &mut [u8], out: &mut [u8], t: Turn) -> Turn {
     let at = t.out;
-    let c = Cursor {
-        at: t.next,
-        end: t.end,
-        came: t.came,
-    };
-    let ByteAt::Is(kind, d) = byte(input, c) else {
-        return last(at);
+    let c = t.next;
+    let NumberAt::Is(kind, d) = one(input, c) else {
+        return last(c, at);
     };
     let Line::Is(e, next) = case(input, d, work, store, out, at, kind) else {
-        return last(text(out, at, b"malformed\n"));
+        return last(d, text(out, at, b"malformed\n"));
     };
     turned(out, e, next)
 }
@@ -109,9 +141,11 @@ fn answer(input: &mut [u8], work: &mut [u8], store: &mut [u8], out: &mut [u8], t
 fn replay(input: &mut [u8], work: &mut [u8], store: &mut [u8], out: &mut [u8]) -> usize {
     let mut t = Turn {
         on: true,
-        next: 0,
-        end: 0,
-        came: 0,
+        next: Cursor {
+            at: 0,
+            end: 0,
+            came: 0,
+        },
         out: 0,
     };
     let mut left: u64 = 18446744073709551615;

@@ -2,32 +2,13 @@
 use compaction::Share;
 use opus_defines::OPUS_OK;
 use opus_defines::verdict_number;
-use replay_io::input::Cursor;
-use replay_io::input::Line;
-use replay_io::input::NumberAt;
-use replay_io::input::bytes;
-use replay_io::input::four;
-use replay_io::input::length;
 use replay_io::output::buffer;
 use replay_io::output::field;
 use replay_io::output::number;
 use replay_io::output::put;
 use replay_io::room::unset;
 
-// A start or a budget: four bytes, not negative as a signed number.
-fn natural(input: &mut [u8], c: Cursor) -> NumberAt {
-    let NumberAt::Is(u, d) = four(input, c) else {
-        return NumberAt::Cut;
-    };
-    if 2147483648 <= u {
-        return NumberAt::Cut;
-    }
-    NumberAt::Is(u, d)
-}
-
-// ---- a share
-
-fn told(out: &mut [u8], at: usize, s: Share) -> usize {
+fn share_told(out: &mut [u8], at: usize, s: Share) -> usize {
     let v = s.verdict;
     let a = number(out, at, verdict_number(OPUS_OK, v));
     let b = field(out, a, s.resume);
@@ -37,146 +18,62 @@ fn told(out: &mut [u8], at: usize, s: Share) -> usize {
     field(out, e, s.passed)
 }
 
-// What a case says before its capture.
-struct Asked {
-    start: usize,
-    budget: usize,
-    room: usize,
-}
-
-// The first n bytes of `work` are the capture, and so many of `store` as there is room the destination.
-fn shared(
-    out: &mut [u8],
-    at: usize,
-    work: &[u8],
-    n: usize,
-    store: &mut [u8],
-    asked: Asked,
-) -> usize {
-    let room = asked.room;
-    if work.len() < n {
-        return at;
-    }
-    if store.len() < room {
-        return at;
-    }
-    let s = compaction::compact_share(&work[0..n], asked.start, &mut store[0..room], asked.budget);
-    told(out, at, s)
-}
-
-fn share_line(
-    out: &mut [u8],
-    at: usize,
-    work: &[u8],
-    n: usize,
-    store: &mut [u8],
-    asked: Asked,
-) -> usize {
-    let room = asked.room;
-    unset(store, room);
-    let a = shared(out, at, work, n, store, asked);
-    let b = put(out, a, b' ');
-    buffer(out, b, store, room)
-}
-
-// The case behind its first two numbers.
-fn share_behind(
-    input: &mut [u8],
-    c: Cursor,
-    work: &mut [u8],
-    store: &mut [u8],
-    out: &mut [u8],
-    at: usize,
-    start: usize,
-    budget: usize,
-) -> Line {
-    let NumberAt::Is(room, d) = length(input, c) else {
-        return Line::Malformed;
-    };
-    let NumberAt::Is(n, e) = bytes(input, d, work) else {
-        return Line::Malformed;
-    };
-    let asked = Asked {
-        start,
-        budget,
-        room,
-    };
-    Line::Is(e, share_line(out, at, work, n, store, asked))
-}
-
-pub fn share_case(
-    input: &mut [u8],
-    c: Cursor,
-    work: &mut [u8],
-    store: &mut [u8],
-    out: &mut [u8],
-    at: usize,
-) -> Line {
-    let NumberAt::Is(start, d) = natural(input, c) else {
-        return Line::Malformed;
-    };
-    let NumberAt::Is(budget, e) = natural(input, d) else {
-        return Line::Malformed;
-    };
-    share_behind(input, e, work, store, out, at, start, budget)
-}
-
-// ---- the chooser
-
 // Nothing but the packet itself, of n bytes, is as long as the packet.
 fn which(k: usize, n: usize) -> u8 {
     if k == n { b'0' } else { b'1' }
 }
 
-// The first n bytes of `work` are the packet, and so many of `store` as there is room the work buffer.
-fn chosen(
-    out: &mut [u8],
-    at: usize,
-    work: &[u8],
-    n: usize,
-    store: &mut [u8],
-    room: usize,
-) -> usize {
+fn choice_told(out: &mut [u8], at: usize, packet: &[u8], work: &mut [u8]) -> usize {
+    let p = spelling::shorter(packet, work);
+    let k = p.len();
+    let a = put(out, at, which(k, packet.len()));
+    let b = put(out, a, b' ');
+    buffer(out, b, p, k)
+}
+
+// Kind 25: a capture, its start, the budget, and a room.
+fn shared(out: &mut [u8], at: usize, ns: &[usize; 10], work: &[u8], store: &mut [u8]) -> usize {
+    let room = ns[2];
+    let n = ns[3];
     if work.len() < n {
         return at;
     }
     if store.len() < room {
         return at;
     }
-    let p = spelling::shorter(&work[0..n], &mut store[0..room]);
-    let k = p.len();
-    let a = put(out, at, which(k, n));
-    let b = put(out, a, b' ');
-    buffer(out, b, p, k)
-}
-
-fn choice_line(
-    out: &mut [u8],
-    at: usize,
-    work: &[u8],
-    n: usize,
-    store: &mut [u8],
-    room: usize,
-) -> usize {
     unset(store, room);
-    let a = chosen(out, at, work, n, store, room);
+    let s = compaction::compact_share(&work[0..n], ns[0], &mut store[0..room], ns[1]);
+    let a = share_told(out, at, s);
     let b = put(out, a, b' ');
     buffer(out, b, store, room)
 }
 
-pub fn choice_case(
-    input: &mut [u8],
-    c: Cursor,
-    work: &mut [u8],
+// Kind 26: a packet, and a room for its other spelling.
+fn chosen(out: &mut [u8], at: usize, ns: &[usize; 10], work: &[u8], store: &mut [u8]) -> usize {
+    let room = ns[0];
+    let n = ns[1];
+    if work.len() < n {
+        return at;
+    }
+    if store.len() < room {
+        return at;
+    }
+    unset(store, room);
+    let a = choice_told(out, at, &work[0..n], &mut store[0..room]);
+    let b = put(out, a, b' ');
+    buffer(out, b, store, room)
+}
+
+pub fn line(
+    kind: usize,
+    ns: &[usize; 10],
+    work: &[u8],
     store: &mut [u8],
     out: &mut [u8],
     at: usize,
-) -> Line {
-    let NumberAt::Is(room, d) = length(input, c) else {
-        return Line::Malformed;
-    };
-    let NumberAt::Is(n, e) = bytes(input, d, work) else {
-        return Line::Malformed;
-    };
-    Line::Is(e, choice_line(out, at, work, n, store, room))
+) -> usize {
+    if kind == 25 {
+        return shared(out, at, ns, work, store);
+    }
+    chosen(out, at, ns, work, store)
 }

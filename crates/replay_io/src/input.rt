@@ -1,4 +1,4 @@
-// Numbers and bytes of a case, taken from the input buffer, which is filled again as need be.
+// The fields of a case, taken from the input buffer, which is filled again as need be.
 ghost use Prim.Native.Nat.{_≤_};
 use libc::STDIN_FILENO;
 use stdio::Got;
@@ -16,23 +16,13 @@ pub struct Cursor {
     pub came: usize,
 }
 
-pub enum ByteAt {
-    Is(u8, Cursor),
-    Cut,
-}
-
-pub enum TwoAt {
-    Is(u16, Cursor),
-    Cut,
-}
-
-// Four bytes, or a length: a number that is not negative.
+// A number of a case, and where the input goes on behind it.
 pub enum NumberAt {
     Is(usize, Cursor),
     Cut,
 }
 
-// Where the input goes on behind a packet.
+// Where the input goes on behind some fields.
 pub enum Taken {
     Whole(Cursor),
     Cut,
@@ -43,6 +33,8 @@ pub enum Line {
     Is(Cursor, usize),
     Malformed,
 }
+
+// ---- bytes
 
 fn counted(came: usize, n: usize) -> usize {
     if COUNTED <= came {
@@ -94,79 +86,22 @@ fn ready(input: &mut [u8], c: Cursor) -> Cursor {
     refilled(input, c.came)
 }
 
-fn byte_at(input: &[u8], c: Cursor) -> ByteAt {
+fn byte_at(input: &[u8], c: Cursor) -> NumberAt {
     let at = c.at;
     if c.end <= at {
-        return ByteAt::Cut;
+        return NumberAt::Cut;
     }
     if input.len() <= at {
-        return ByteAt::Cut;
+        return NumberAt::Cut;
     }
-    ByteAt::Is(
-        input[at],
+    NumberAt::Is(
+        opus_defines::wide_byte(input[at]),
         Cursor {
             at: at + 1,
             end: c.end,
             came: c.came,
         },
     )
-}
-
-pub fn byte(input: &mut [u8], c: Cursor) -> ByteAt {
-    let d = ready(input, c);
-    byte_at(input, d)
-}
-
-fn joined(low: u8, high: u8) -> u16 {
-    (low as u16) + 256 * (high as u16)
-}
-
-// Two bytes, low byte first.
-pub fn two(input: &mut [u8], c: Cursor) -> TwoAt {
-    let ByteAt::Is(low, d) = byte(input, c) else {
-        return TwoAt::Cut;
-    };
-    let ByteAt::Is(high, e) = byte(input, d) else {
-        return TwoAt::Cut;
-    };
-    TwoAt::Is(joined(low, high), e)
-}
-
-fn joined_twos(low: u16, high: u16) -> usize {
-    (low as usize) + 65536 * (high as usize)
-}
-
-// Four bytes, low byte first, as a number below 2^32.
-pub fn four(input: &mut [u8], c: Cursor) -> NumberAt {
-    let TwoAt::Is(low, d) = two(input, c) else {
-        return NumberAt::Cut;
-    };
-    let TwoAt::Is(high, e) = two(input, d) else {
-        return NumberAt::Cut;
-    };
-    NumberAt::Is(joined_twos(low, high), e)
-}
-
-// The signed number that four bytes hold.
-pub fn signed(u: usize) -> i32 {
-    if u < 2147483648 {
-        return u as i32;
-    }
-    if u < 4294967296 {
-        return !((4294967295 - u) as i32);
-    }
-    0
-}
-
-// A length, a room or a new length.
-pub fn length(input: &mut [u8], c: Cursor) -> NumberAt {
-    let NumberAt::Is(u, d) = four(input, c) else {
-        return NumberAt::Cut;
-    };
-    if MOST < u {
-        return NumberAt::Cut;
-    }
-    NumberAt::Is(u, d)
 }
 
 fn least(a: usize, b: usize) -> usize
@@ -222,7 +157,7 @@ fn copied(input: &[u8], c: Cursor, work: &mut [u8], to: usize, k: usize) {
 }
 
 // Takes n bytes off the input to the start of `work`.
-pub fn take(input: &mut [u8], c: Cursor, work: &mut [u8], n: usize) -> Taken {
+fn take(input: &mut [u8], c: Cursor, work: &mut [u8], n: usize) -> Taken {
     let mut next = c;
     let mut done: usize = 0;
     while done < n {
@@ -238,13 +173,132 @@ pub fn take(input: &mut [u8], c: Cursor, work: &mut [u8], n: usize) -> Taken {
     Taken::Whole(next)
 }
 
-// A packet: its length, and its bytes at the start of `work`.
-pub fn bytes(input: &mut [u8], c: Cursor, work: &mut [u8]) -> NumberAt {
-    let NumberAt::Is(n, d) = length(input, c) else {
+// ---- numbers, low byte first
+
+pub fn one(input: &mut [u8], c: Cursor) -> NumberAt {
+    let d = ready(input, c);
+    byte_at(input, d)
+}
+
+fn joined(low: usize, high: usize) -> usize {
+    low % 256 + 256 * (high % 256)
+}
+
+fn two(input: &mut [u8], c: Cursor) -> NumberAt {
+    let NumberAt::Is(low, d) = one(input, c) else {
         return NumberAt::Cut;
     };
-    let Taken::Whole(e) = take(input, d, work, n) else {
+    let NumberAt::Is(high, e) = one(input, d) else {
         return NumberAt::Cut;
     };
-    NumberAt::Is(n, e)
+    NumberAt::Is(joined(low, high), e)
+}
+
+fn joined_twos(low: usize, high: usize) -> usize {
+    low % 65536 + 65536 * (high % 65536)
+}
+
+// Four bytes, as a number below 2^32.
+fn four(input: &mut [u8], c: Cursor) -> NumberAt {
+    let NumberAt::Is(low, d) = two(input, c) else {
+        return NumberAt::Cut;
+    };
+    let NumberAt::Is(high, e) = two(input, d) else {
+        return NumberAt::Cut;
+    };
+    NumberAt::Is(joined_twos(low, high), e)
+}
+
+// Four bytes, of a number that is not above `most`.
+fn within(input: &mut [u8], c: Cursor, most: usize) -> NumberAt {
+    let NumberAt::Is(n, d) = four(input, c) else {
+        return NumberAt::Cut;
+    };
+    if most < n {
+        return NumberAt::Cut;
+    }
+    NumberAt::Is(n, d)
+}
+
+// The signed number that four bytes hold.
+pub fn signed(u: usize) -> i32 {
+    if u < 2147483648 {
+        return u as i32;
+    }
+    if u < 4294967296 {
+        return !((4294967295 - u) as i32);
+    }
+    0
+}
+
+// What one byte or two hold.
+pub fn low_8(u: usize) -> u8 {
+    (u % 256) as u8
+}
+
+pub fn low_16(u: usize) -> u16 {
+    (u % 65536) as u16
+}
+
+// ---- fields
+
+// Bytes behind their number, which is read already: they go to the start of `work`.
+fn bytes(input: &mut [u8], work: &mut [u8], n: NumberAt) -> NumberAt {
+    let NumberAt::Is(k, c) = n else {
+        return NumberAt::Cut;
+    };
+    let Taken::Whole(d) = take(input, c, work, k) else {
+        return NumberAt::Cut;
+    };
+    NumberAt::Is(k, d)
+}
+
+// The field of a digit: 1, 2 and 4 are a number of so many bytes, A a room or a length, B bytes behind their length, C bytes behind a length of one byte,
+// D four bytes of a number that is not negative; E is no field, and the number 0.
+fn field(input: &mut [u8], c: Cursor, digit: u64, work: &mut [u8]) -> NumberAt {
+    match digit {
+        1 => one(input, c),
+        2 => two(input, c),
+        4 => four(input, c),
+        0xA => within(input, c, MOST),
+        0xB => {
+            let n = within(input, c, MOST);
+            bytes(input, work, n)
+        }
+        0xC => {
+            let n = one(input, c);
+            bytes(input, work, n)
+        }
+        0xD => within(input, c, 2147483647),
+        0xE => NumberAt::Is(0, c),
+        _ => NumberAt::Cut,
+    }
+}
+
+// Takes the fields of a form off the input, and puts their numbers, of bytes how many, into `ns`. A form has ten hexadecimal digits, one for each field, from
+// the first on; a 0 ends it.
+pub fn fields(
+    input: &mut [u8],
+    c: Cursor,
+    form: u64,
+    ns: &mut [usize; 10],
+    work: &mut [u8],
+) -> Taken {
+    let mut left = form;
+    let mut next = c;
+    let mut i: usize = 0;
+    while i < 10 {
+        let digit = left / 0x1000000000;
+        if digit == 0 {
+            return Taken::Whole(next);
+        }
+        let NumberAt::Is(n, d) = field(input, next, digit, work) else {
+            return Taken::Cut;
+        };
+        ns[i] = n;
+        left = left % 0x1000000000 * 16;
+        next = d;
+        i += 1;
+    }
+    Taken::Whole(next)
 }

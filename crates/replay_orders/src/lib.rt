@@ -4,129 +4,73 @@ use collector::Head;
 use collector::OpusRepacketizer;
 use cut_orders::Order;
 use cut_orders::OrderReport;
-use replay_io::input::ByteAt;
+use replay_collector::state::FRAME;
+use replay_collector::state::State;
+use replay_collector::state::state_at;
 use replay_io::input::Cursor;
 use replay_io::input::Line;
-use replay_io::input::NumberAt;
-use replay_io::input::byte;
-use replay_io::input::four;
-use replay_io::input::length;
+use replay_io::input::Taken;
+use replay_io::input::fields;
 use replay_io::input::signed;
 use replay_io::output::buffer;
 use replay_io::output::decimal;
+use replay_io::output::field;
 use replay_io::output::number;
 use replay_io::output::put;
 use replay_io::output::text;
 use replay_io::room::unset;
-use replay_state::state::State;
-use replay_state::state::cursor_behind;
-use replay_state::state::state_at;
 
 // What an order's length is before the call.
 const UNSET_LENGTH: u32 = 238;
 
+// The room and how many orders there are; begin and end of an order.
+const ORDERS: u64 = 0xA100000000;
+
+const ORDER: u64 = 0x4400000000;
+
 // ---- the orders of a case
 
-enum OrderAt {
-    Is(Order, Cursor),
-    Cut,
-}
-
-fn order_at(input: &mut [u8], c: Cursor) -> OrderAt {
-    let NumberAt::Is(begin, d) = four(input, c) else {
-        return OrderAt::Cut;
-    };
-    let NumberAt::Is(end, e) = four(input, d) else {
-        return OrderAt::Cut;
-    };
-    OrderAt::Is(
-        Order {
-            begin: signed(begin),
-            end: signed(end),
-            length: UNSET_LENGTH,
-        },
-        e,
-    )
-}
-
-// The room, the orders, of which the first n count, and where the input goes on, if the case is whole so far.
-struct Wanted {
+// The orders, if the case is whole so far, and where the input goes on.
+struct Listed {
     whole: bool,
-    next: usize,
-    end: usize,
-    came: usize,
-    room: usize,
-    n: u8,
+    behind: Cursor,
     list: [Order; 255],
 }
 
-fn some_wanted(c: Cursor, whole: bool, room: usize, n: u8, list: [Order; 255]) -> Wanted {
-    Wanted {
+fn orders_so_far(whole: bool, c: Cursor, list: [Order; 255]) -> Listed {
+    Listed {
         whole,
-        next: c.at,
-        end: c.end,
-        came: c.came,
-        room,
-        n,
+        behind: c,
         list,
     }
 }
 
-fn no_list() -> [Order; 255] {
-    let none = Order {
-        begin: 0,
-        end: 0,
-        length: 0,
-    };
-    [none; 255]
-}
-
-fn none_wanted() -> Wanted {
-    Wanted {
-        whole: false,
-        next: 0,
-        end: 0,
-        came: 0,
-        room: 0,
-        n: 0,
-        list: no_list(),
+fn order_of(begin: usize, end: usize) -> Order {
+    Order {
+        begin: signed(begin),
+        end: signed(end),
+        length: UNSET_LENGTH,
     }
 }
 
-fn list_at(input: &mut [u8], c: Cursor, room: usize, n: u8) -> Wanted {
-    let mut list = no_list();
+// The first n of the list are the case's.
+fn list_at(input: &mut [u8], c: Cursor, work: &mut [u8], n: usize) -> Listed {
+    let mut list = [order_of(0, 0); 255];
+    let mut ns = [0usize; 10];
     let mut next = c;
     let mut i: usize = 0;
     while i < 255 {
-        if (n as usize) <= i {
-            return some_wanted(next, true, room, n, list);
+        if n <= i {
+            return orders_so_far(true, next, list);
         }
-        let OrderAt::Is(o, d) = order_at(input, next) else {
-            return some_wanted(next, false, room, n, list);
+        let Taken::Whole(d) = fields(input, next, ORDER, &mut ns, work) else {
+            return orders_so_far(false, next, list);
         };
-        list[i] = o;
+        list[i] = order_of(ns[0], ns[1]);
         next = d;
         i += 1;
     }
-    some_wanted(next, true, room, n, list)
-}
-
-fn orders_at(input: &mut [u8], c: Cursor) -> Wanted {
-    let NumberAt::Is(room, d) = length(input, c) else {
-        return none_wanted();
-    };
-    let ByteAt::Is(n, e) = byte(input, d) else {
-        return none_wanted();
-    };
-    list_at(input, e, room, n)
-}
-
-fn behind(o: Wanted) -> Cursor {
-    Cursor {
-        at: o.next,
-        end: o.end,
-        came: o.came,
-    }
+    orders_so_far(true, next, list)
 }
 
 // ---- the call
@@ -158,10 +102,15 @@ fn out_many(
 }
 
 // The call into so many bytes of `work`, all unset before it.
-fn many(rp: OpusRepacketizer, store: &[u8], o: Wanted, work: &mut [u8]) -> Answered {
-    let room = o.room;
-    let list = o.list;
-    if work.len() < room {
+fn many(
+    rp: OpusRepacketizer,
+    store: &[u8],
+    list: [Order; 255],
+    n: usize,
+    work: &mut [u8],
+    room: usize,
+) -> Answered {
+    if work.len() < room || 255 < n {
         return Answered {
             report: OrderReport {
                 number: 0,
@@ -174,7 +123,6 @@ fn many(rp: OpusRepacketizer, store: &[u8], o: Wanted, work: &mut [u8]) -> Answe
     let h = collector::head_of(rp);
     let len = rp.len;
     let packet = rp.packet;
-    let n = o.n as usize;
     out_many(h, &len, &packet, store, list, n, &mut work[0..room])
 }
 
@@ -190,11 +138,11 @@ fn order_told(out: &mut [u8], at: usize, o: Order) -> usize {
 }
 
 // The first n orders, each behind a space.
-fn list_told(out: &mut [u8], at: usize, list: [Order; 255], n: u8) -> usize {
+fn list_told(out: &mut [u8], at: usize, list: [Order; 255], n: usize) -> usize {
     let mut next = at;
     let mut i: usize = 0;
     while i < 255 {
-        if (n as usize) <= i {
+        if n <= i {
             return next;
         }
         next = order_told(out, next, list[i]);
@@ -203,17 +151,37 @@ fn list_told(out: &mut [u8], at: usize, list: [Order; 255], n: u8) -> usize {
     next
 }
 
-fn told(out: &mut [u8], at: usize, r: OrderReport, list: [Order; 255], n: u8) -> usize {
+fn told(out: &mut [u8], at: usize, r: OrderReport, list: [Order; 255], n: usize) -> usize {
     let a = number(out, at, r.number);
-    let b = put(out, a, b' ');
-    let c = decimal(out, b, r.position as usize);
-    let d = text(out, c, b" ;");
-    let e = list_told(out, d, list, n);
-    text(out, e, b" ; ")
+    let b = field(out, a, r.position as usize);
+    let c = text(out, b, b" ;");
+    let d = list_told(out, c, list, n);
+    text(out, d, b" ; ")
 }
 
-// The case behind its collector.
-fn orders_behind(
+// The numbers are the room and how many orders there are.
+fn line(
+    out: &mut [u8],
+    at: usize,
+    rp: OpusRepacketizer,
+    store: &[u8],
+    size: usize,
+    list: [Order; 255],
+    ns: &[usize; 10],
+    work: &mut [u8],
+) -> usize {
+    if store.len() < size {
+        return at;
+    }
+    let a = many(rp, &store[0..size], list, ns[1], work, ns[0]);
+    let after = a.list;
+    let r = a.report;
+    let next = told(out, at, r, after, ns[1]);
+    buffer(out, next, work, ns[0])
+}
+
+// The case behind its room and the number of its orders.
+fn orders_from(
     input: &mut [u8],
     c: Cursor,
     work: &mut [u8],
@@ -221,21 +189,32 @@ fn orders_behind(
     out: &mut [u8],
     at: usize,
     s: State,
+    ns: &[usize; 10],
 ) -> Line {
-    let o = orders_at(input, c);
-    if !o.whole {
-        return Line::Malformed;
-    }
-    let size = s.store;
-    if store.len() < size {
+    let l = list_at(input, c, work, ns[1]);
+    if !l.whole {
         return Line::Malformed;
     }
     let rp = s.rp;
-    let a = many(rp, &store[0..size], o, work);
-    let r = a.report;
-    let list = a.list;
-    let next = told(out, at, r, list, o.n);
-    Line::Is(behind(o), buffer(out, next, work, o.room))
+    let list = l.list;
+    let d = l.behind;
+    Line::Is(d, line(out, at, rp, store, s.store, list, ns, work))
+}
+
+// The case behind its collector.
+fn orders_behind(
+    input: &mut [u8],
+    work: &mut [u8],
+    store: &[u8],
+    out: &mut [u8],
+    at: usize,
+    s: State,
+) -> Line {
+    let mut ns = [0usize; 10];
+    let Taken::Whole(c) = fields(input, s.behind, ORDERS, &mut ns, work) else {
+        return Line::Malformed;
+    };
+    orders_from(input, c, work, store, out, at, s, &ns)
 }
 
 pub fn orders_case(
@@ -246,9 +225,9 @@ pub fn orders_case(
     out: &mut [u8],
     at: usize,
 ) -> Line {
-    let s = state_at(input, c, store, false);
+    let s = state_at(input, c, store, FRAME);
     if !s.whole {
         return Line::Malformed;
     }
-    orders_behind(input, cursor_behind(s), work, store, out, at, s)
+    orders_behind(input, work, store, out, at, s)
 }

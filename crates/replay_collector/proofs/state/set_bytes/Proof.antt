@@ -1,10 +1,10 @@
--- `replay_state::state::set_bytes` is safe and ends.
+-- `replay_collector::state::set_bytes` is safe and ends.
 -- Assumes nothing.
 use Prim.Native.Nat.{_≤_}
 use borrow.Author.Needs.{needs}
 use lib.ListN.{length}
-use Rattle.replay_state.proofs.state.set_bytes.Statement.{statement}
-use Rattle.replay_state.proofs.state.set_bytes.Tie as tie
+use Rattle.replay_collector.proofs.state.set_bytes.Statement.{statement}
+use Rattle.replay_collector.proofs.state.set_bytes.Tie as tie
 
 abbrev Inv-loop : tie.InvT-loop
 Inv-loop store n left₀ left = left ≤ length store

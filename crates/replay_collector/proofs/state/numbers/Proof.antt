@@ -1,11 +1,11 @@
--- `replay_state::state::numbers` is safe and ends.
+-- `replay_collector::state::numbers` is safe and ends.
 -- Assumes nothing.
 use mathlib.Core.Path.{_≡_}
 use Prim.Native.Nat.{_-_, _≤_}
 use borrow.Author.Needs.{needs}
 use lib.ListN.{length}
-use Rattle.replay_state.proofs.state.numbers.Statement.{statement}
-use Rattle.replay_state.proofs.state.numbers.Tie as tie
+use Rattle.replay_collector.proofs.state.numbers.Statement.{statement}
+use Rattle.replay_collector.proofs.state.numbers.Tie as tie
 
 abbrev Inv-loop : tie.InvT-loop
 Inv-loop out₀ at packet next₀ i₀ out next i = (i ≤ 48) × (length out ≡ length out₀)
@@ -21,6 +21,7 @@ numbers-spec =
     μ-loop
     (λ c. search needs)
     (λ c. search needs)
+    (λ c κs. search needs)
     (λ c κs. search needs)
     (λ c. search needs)
     (λ c. search needs)

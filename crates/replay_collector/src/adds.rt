@@ -4,58 +4,50 @@ use crate::state::collector_and_store;
 use collector::OpusRepacketizer;
 use opus_defines::Verdict;
 use repacketizer::Added;
-use replay_io::input::ByteAt;
 use replay_io::input::Cursor;
 use replay_io::input::Line;
-use replay_io::input::NumberAt;
-use replay_io::input::byte;
-use replay_io::input::bytes;
+use replay_io::input::Taken;
+use replay_io::input::fields;
 use replay_io::output::number;
 use replay_io::output::put;
 use replay_io::output::report;
 
-// Between two adds: whether the case is whole so far, and where the input and the output go on.
+// How many adds follow; the packet of an ordinary add; a flag and the packet of an add that is strict where the flag is set.
+const COUNT: u64 = 0x1000000000;
+
+pub const ADD: u64 = 0xEB00000000;
+
+pub const EITHER_ADD: u64 = 0x1B00000000;
+
+// Between two adds: whether the case is whole so far, where the input and the output go on, the collector, and how many bytes its store has.
 pub struct Adding {
     pub whole: bool,
-    pub next: usize,
-    pub end: usize,
-    pub came: usize,
+    pub next: Cursor,
     pub out: usize,
     pub rp: OpusRepacketizer,
-    // The store's bytes, whether rule and place are told, and whether each packet comes with its kind.
     pub store: usize,
-    pub places: bool,
-    pub kinds: bool,
 }
 
-// Before the first add to an empty collector, with its number told alone.
+// Before the first add to an empty collector.
 pub fn from_empty(c: Cursor, at: usize) -> Adding {
     Adding {
         whole: true,
-        next: c.at,
-        end: c.end,
-        came: c.came,
+        next: c,
         out: at,
         rp: collector::opus_repacketizer_init(),
         store: collector::LEAST_STORE,
-        places: false,
-        kinds: false,
     }
 }
 
-// Before the first add to any collector, with rule and place told.
-pub fn from_state(c: Cursor, at: usize, s: State, kinds: bool) -> Adding {
+// Before the first add to any collector, the case going on at c.
+pub fn from_state(s: State, c: Cursor, at: usize) -> Adding {
     let rp = s.rp;
     Adding {
         whole: true,
-        next: c.at,
-        end: c.end,
-        came: c.came,
+        next: c,
         out: at,
         rp,
         store: s.store,
-        places: true,
-        kinds,
     }
 }
 
@@ -85,6 +77,7 @@ fn cat(rp: OpusRepacketizer, data: &[u8], store: &mut [u8], strict: bool) -> Add
     }
 }
 
+// Adds the first n bytes of `work`.
 fn added(
     work: &[u8],
     n: usize,
@@ -93,11 +86,12 @@ fn added(
     s: Adding,
     c: Cursor,
     strict: bool,
+    places: bool,
 ) -> Adding {
+    let size = s.store;
     if work.len() < n {
         return no_more(s);
     }
-    let size = s.store;
     if store.len() < size {
         return no_more(s);
     }
@@ -107,57 +101,28 @@ fn added(
     let held = a.rp;
     Adding {
         whole: true,
-        next: c.at,
-        end: c.end,
-        came: c.came,
-        out: verdict(out, s.out, v, s.places),
+        next: c,
+        out: verdict(out, s.out, v, places),
         rp: held,
         store: size,
-        places: s.places,
-        kinds: s.kinds,
     }
 }
 
-// The kind of the next add: a byte, where kinds are given.
-fn kind_at(input: &mut [u8], c: Cursor, kinds: bool) -> ByteAt {
-    if !kinds {
-        return ByteAt::Is(0, c);
-    }
-    byte(input, c)
-}
-
-// One packet is read and added.
-fn add_packet(
-    input: &mut [u8],
-    work: &mut [u8],
-    store: &mut [u8],
-    out: &mut [u8],
-    s: Adding,
-    c: Cursor,
-    strict: bool,
-) -> Adding {
-    let NumberAt::Is(n, d) = bytes(input, c, work) else {
-        return no_more(s);
-    };
-    added(work, n, store, out, s, d, strict)
-}
-
+// An add by its form: the flag for a strict one, where there is one, and the packet.
 pub fn add(
     input: &mut [u8],
     work: &mut [u8],
     store: &mut [u8],
     out: &mut [u8],
     s: Adding,
+    form: u64,
+    places: bool,
 ) -> Adding {
-    let c = Cursor {
-        at: s.next,
-        end: s.end,
-        came: s.came,
-    };
-    let ByteAt::Is(kind, d) = kind_at(input, c, s.kinds) else {
+    let mut ns = [0usize; 10];
+    let Taken::Whole(d) = fields(input, s.next, form, &mut ns, work) else {
         return no_more(s);
     };
-    add_packet(input, work, store, out, s, d, kind != 0)
+    added(work, ns[1], store, out, s, d, ns[0] != 0, places)
 }
 
 fn add_all(
@@ -166,12 +131,14 @@ fn add_all(
     store: &mut [u8],
     out: &mut [u8],
     start: Adding,
-    n: u8,
+    form: u64,
+    places: bool,
+    n: usize,
 ) -> Adding {
     let mut s = start;
     let mut left = n;
     while 0 < left {
-        s = add(input, work, store, out, s);
+        s = add(input, work, store, out, s, form, places);
         if !s.whole {
             return s;
         }
@@ -187,20 +154,16 @@ pub fn adds(
     store: &mut [u8],
     out: &mut [u8],
     start: Adding,
+    form: u64,
+    places: bool,
 ) -> Adding {
-    let c = Cursor {
-        at: start.next,
-        end: start.end,
-        came: start.came,
-    };
-    let ByteAt::Is(n, d) = byte(input, c) else {
+    let mut ns = [0usize; 10];
+    let Taken::Whole(d) = fields(input, start.next, COUNT, &mut ns, work) else {
         return no_more(start);
     };
     let mut s = start;
-    s.next = d.at;
-    s.end = d.end;
-    s.came = d.came;
-    add_all(input, work, store, out, s, n)
+    s.next = d;
+    add_all(input, work, store, out, s, form, places, ns[0])
 }
 
 // The line up to the collector and its store behind the adds, with the packet numbers where they are asked for.
@@ -209,13 +172,22 @@ pub fn told(out: &mut [u8], s: Adding, store: &[u8], numbered: bool) -> Line {
         return Line::Malformed;
     }
     let rp = s.rp;
-    let next = collector_and_store(out, s.out, rp, store, s.store, numbered);
+    let c = s.next;
     Line::Is(
-        Cursor {
-            at: s.next,
-            end: s.end,
-            came: s.came,
-        },
-        next,
+        c,
+        collector_and_store(out, s.out, rp, store, s.store, numbered),
     )
+}
+
+// The adds, and the line behind them.
+pub fn adds_told(
+    input: &mut [u8],
+    work: &mut [u8],
+    store: &mut [u8],
+    out: &mut [u8],
+    start: Adding,
+    form: u64,
+) -> Line {
+    let s = adds(input, work, store, out, start, form, true);
+    told(out, s, store, false)
 }
