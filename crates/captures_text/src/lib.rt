@@ -1,11 +1,9 @@
 // The text of the program `captures`: a line `line place length` for each record of a capture, put into a buffer part by part.
 ghost use mathlib.Core.Path.{_≡_};
-ghost use mathlib.Core.List.{_∷_};
 ghost use Prim.Native.Nat.{_+_, _≤_};
 ghost use lib.ListN.{length};
 ghost use lib.Seq.{sets};
 ghost use Rattle.io.specs.Counts.{Counts};
-ghost use Rattle.show.specs.Text.{decimal};
 ghost use Rattle.captures_text.specs.Lines.{mostCapture, recordLine, linesIn, partFrom};
 use capture::NextRecord;
 use opus_defines::Refusal;
@@ -22,25 +20,14 @@ pub struct Lines {
     pub next: usize,
 }
 
-// A number behind a space.
-fn put_spaced(out: &mut [u8], at: usize, n: usize) -> usize
-    requires { ⌜ at + length (32 ∷ decimal n) ≤ length (now out) ⌝ }
-    ensures bytes { λ _. ⌜ now (out .exit) ≡ sets (now (out .entry)) at (32 ∷ decimal n) ⌝ }
-    ensures next { λ r. ⌜ r ≡ at + length (32 ∷ decimal n) ⌝ }
-{
-    let next = show::put_text(out, at, b" ");
-    show::put_decimal(out, next, n)
-}
-
 fn put_line(out: &mut [u8], at: usize, r: NextRecord) -> usize
     requires { ⌜ at + length (recordLine r) ≤ length (now out) ⌝ }
     ensures bytes { λ _. ⌜ now (out .exit) ≡ sets (now (out .entry)) at (recordLine r) ⌝ }
     ensures next { λ n. ⌜ n ≡ at + length (recordLine r) ⌝ }
 {
     let mut next = show::put_decimal(out, at, r.line as usize);
-    next = put_spaced(out, next, r.place);
-    next = put_spaced(out, next, r.length);
-    show::put_text(out, next, b"\n")
+    next = show::put_named(out, next, b" ", r.place);
+    show::put_line(out, next, b" ", r.length)
 }
 
 // The lines of the records from a place on.

@@ -14,19 +14,19 @@ use Rattle.laws.specs.Bytes.{Bytes}
 use Rattle.laws.proofs.Bytes.{bytes-tail, bytes-take}
 use Rattle.opus_head.specs.Heads.{InRange}
 use Rattle.opus_head.specs.declared.OpusHead.{OpusHead}
-use Rattle.show.specs.Text.{decimal}
+use Rattle.show.specs.Text.{decimal, numberText}
 use Rattle.show.proofs.Digits.{decimal-most}
 use Rattle.show.proofs.Signed.{integer-most}
 use Rattle.head_text.specs.Labels.{versionLabel, channelsLabel, skipLabel, samplesEnd, rateLabel, hertzEnd, gainLabel, gainEnd}
 use Rattle.head_text.specs.Labels.{familyLabel, streamsLabel, coupledLabel, mappingLabel}
-use Rattle.head_text.specs.Text.{numberLine, gainLine, entryTexts, mappingLine, openingLines, soundLines, streamLines, headLines}
+use Rattle.head_text.specs.Text.{gainLine, entryTexts, mappingLine, openingLines, soundLines, streamLines, headLines}
 use Rattle.head_text.proofs.Texts.{wider}
 
 -- ---- lines
-line-most : (label : List ℕ) (n : ℕ) (end : List ℕ) (m : ℕ) → n < 10 ^ suc m → length (numberLine label n end) ≤ length label + suc m + length end
+line-most : (label : List ℕ) (n : ℕ) (end : List ℕ) (m : ℕ) → n < 10 ^ suc m → length (numberText label n end) ≤ length label + suc m + length end
 line-most label n end m h = omega (arith, length-append label (decimal n ++ end), length-append (decimal n) end, decimal-most n m h)
 
-byte-most : (label : List ℕ) (n : ℕ) → n < 256 → length (numberLine label n (10 ∷ [])) ≤ length label + 4
+byte-most : (label : List ℕ) (n : ℕ) → n < 256 → length (numberText label n (10 ∷ [])) ≤ length label + 4
 byte-most label n h = omega (arith, line-most label n (10 ∷ []) 2 (omega arith))
 
 gain-most : (x : ℤ) → SFits w16 x → length (gainLine x) ≤ 29
@@ -50,20 +50,20 @@ three-most a b c h m n = omega (arith, length-append a (b ++ c), length-append b
 opening-most : (version channels skip : ℕ) → version < 256 → channels < 256 → skip < 65536 → length (openingLines version channels skip) ≤ 48
 unfolding openingLines versionLabel channelsLabel skipLabel samplesEnd
 opening-most version channels skip h k m =
-    three-most (numberLine versionLabel version (10 ∷ [])) (numberLine channelsLabel channels (10 ∷ [])) (numberLine skipLabel skip samplesEnd)
+    three-most (numberText versionLabel version (10 ∷ [])) (numberText channelsLabel channels (10 ∷ [])) (numberText skipLabel skip samplesEnd)
     (byte-most versionLabel version h) (byte-most channelsLabel channels k) (line-most skipLabel skip samplesEnd 4 (omega arith))
 
 sound-most : (rate : ℕ) (gain : ℤ) (family : ℕ) → rate < 2 ^ 32 → SFits w16 gain → family < 256 → length (soundLines rate gain family) ≤ 65
 unfolding soundLines rateLabel hertzEnd familyLabel
 sound-most rate gain family h f k =
-    three-most (numberLine rateLabel rate hertzEnd) (gainLine gain) (numberLine familyLabel family (10 ∷ []))
+    three-most (numberText rateLabel rate hertzEnd) (gainLine gain) (numberText familyLabel family (10 ∷ []))
     (line-most rateLabel rate hertzEnd 9 (omega arith)) (gain-most gain f) (byte-most familyLabel family k)
 
 streams-most : (streams coupled : ℕ) (es : List ℕ) → streams < 256 → coupled < 256 → Bytes es → length es ≤ 255
     → length (streamLines streams coupled es) ≤ 1052
 unfolding streamLines streamsLabel coupledLabel
 streams-most streams coupled es h k b m =
-    three-most (numberLine streamsLabel streams (10 ∷ [])) (numberLine coupledLabel coupled (10 ∷ [])) (mappingLine es)
+    three-most (numberText streamsLabel streams (10 ∷ [])) (numberText coupledLabel coupled (10 ∷ [])) (mappingLine es)
     (byte-most streamsLabel streams h) (byte-most coupledLabel coupled k) (mapping-most es b m)
 
 -- ---- all of them

@@ -15,11 +15,11 @@ use mir.Val.{toZ, ofZ, SFits}
 use mir.ValLaws.{toZ-ofZ}
 use Rattle.opus_head.specs.declared.OpusHead.{OpusHead}
 use Rattle.opus_head.proofs.Laid.{passed as bits, passed-is as bits-are}
-use Rattle.show.specs.Text.{integer}
+use Rattle.show.specs.Text.{integer, numberText}
 use Rattle.show.proofs.Laid.{Three, front-room}
 use Rattle.head_text.specs.Labels.{versionLabel, channelsLabel, skipLabel, samplesEnd, rateLabel, hertzEnd, gainLabel, gainEnd}
 use Rattle.head_text.specs.Labels.{familyLabel, streamsLabel, coupledLabel, mappingLabel}
-use Rattle.head_text.specs.Text.{numberLine, gainLine, entryTexts, mappingLine, openingLines, soundLines, streamLines, headLines}
+use Rattle.head_text.specs.Text.{gainLine, entryTexts, mappingLine, openingLines, soundLines, streamLines, headLines}
 
 -- ---- the gain, in 16 bits and in 32
 abbrev pub passed : ℤ → ℤ
@@ -38,7 +38,7 @@ module _ (x : ℤ) (f : SFits w16 x) where
   gain-parts l at h = record { whole = rw (toZ-ofZ w16 x f, toZ-ofZ w32 x (wider x f)); room = h }
 
   pub sound-parts : (l : List ℕ) (at rate family : ℕ) → at + length (soundLines rate x family) ≤ length l
-      → Three l at (soundLines rate x family) (numberLine rateLabel rate hertzEnd) (gainLine (passed x)) (numberLine familyLabel family (10 ∷ []))
+      → Three l at (soundLines rate x family) (numberText rateLabel rate hertzEnd) (gainLine (passed x)) (numberText familyLabel family (10 ∷ []))
   unfolding soundLines
   sound-parts l at rate family h = record { whole = rw (toZ-ofZ w16 x f); room = h }
 
@@ -48,13 +48,13 @@ pub mapping-parts : (l : List ℕ) (at : ℕ) (es : List ℕ) → at + length (m
 mapping-parts l at es h = record { whole = refl; room = h }
 
 pub opening-parts : (l : List ℕ) (version channels skip : ℕ) → length (openingLines version channels skip) ≤ length l
-    → Three l 0 (openingLines version channels skip) (numberLine versionLabel version (10 ∷ [])) (numberLine channelsLabel channels (10 ∷ []))
-    (numberLine skipLabel skip samplesEnd)
+    → Three l 0 (openingLines version channels skip) (numberText versionLabel version (10 ∷ [])) (numberText channelsLabel channels (10 ∷ []))
+    (numberText skipLabel skip samplesEnd)
 unfolding openingLines
 opening-parts l version channels skip h = record { whole = refl; room = front-room l (openingLines version channels skip) h }
 
 pub streams-parts : (l : List ℕ) (at streams coupled : ℕ) (es : List ℕ) → at + length (streamLines streams coupled es) ≤ length l
-    → Three l at (streamLines streams coupled es) (numberLine streamsLabel streams (10 ∷ [])) (numberLine coupledLabel coupled (10 ∷ [])) (mappingLine es)
+    → Three l at (streamLines streams coupled es) (numberText streamsLabel streams (10 ∷ [])) (numberText coupledLabel coupled (10 ∷ [])) (mappingLine es)
 unfolding streamLines
 streams-parts l at streams coupled es h = record { whole = refl; room = h }
 

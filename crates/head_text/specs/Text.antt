@@ -9,15 +9,11 @@ use Rattle.opus_defines.specs.declared.Verdict.{Verdict}
 use Rattle.opus_defines.specs.declared.Verdict.the-variants.{Accepted, Refused}
 use Rattle.opus_head.specs.Reading.{headRead}
 use Rattle.opus_head.specs.declared.OpusHead.{OpusHead}
-use Rattle.show.specs.Text.{decimal, integer, refusal}
+use Rattle.show.specs.Text.{decimal, integer, numberText, refusal}
 use Rattle.head_text.specs.Labels.{versionLabel, channelsLabel, skipLabel, samplesEnd, rateLabel, hertzEnd, gainLabel, gainEnd}
 use Rattle.head_text.specs.Labels.{familyLabel, streamsLabel, coupledLabel, mappingLabel}
 
 -- ---- lines
--- a number between its label and the end of the line
-abbrev pub numberLine : List ℕ → ℕ → List ℕ → List ℕ
-numberLine label n end = label ++ (decimal n ++ end)
-
 abbrev pub gainLine : ℤ → List ℕ
 gainLine gain = gainLabel ++ (integer gain ++ gainEnd)
 
@@ -32,13 +28,13 @@ mappingLine es = mappingLabel ++ (entryTexts es ++ (10 ∷ []))
 -- ---- a header that was read: nine lines, three by three
 unfoldable pub openingLines : ℕ → ℕ → ℕ → List ℕ
 openingLines version channels skip =
-    numberLine versionLabel version (10 ∷ []) ++ (numberLine channelsLabel channels (10 ∷ []) ++ numberLine skipLabel skip samplesEnd)
+    numberText versionLabel version (10 ∷ []) ++ (numberText channelsLabel channels (10 ∷ []) ++ numberText skipLabel skip samplesEnd)
 
 unfoldable pub soundLines : ℕ → ℤ → ℕ → List ℕ
-soundLines rate gain family = numberLine rateLabel rate hertzEnd ++ (gainLine gain ++ numberLine familyLabel family (10 ∷ []))
+soundLines rate gain family = numberText rateLabel rate hertzEnd ++ (gainLine gain ++ numberText familyLabel family (10 ∷ []))
 
 unfoldable pub streamLines : ℕ → ℕ → List ℕ → List ℕ
-streamLines streams coupled es = numberLine streamsLabel streams (10 ∷ []) ++ (numberLine coupledLabel coupled (10 ∷ []) ++ mappingLine es)
+streamLines streams coupled es = numberText streamsLabel streams (10 ∷ []) ++ (numberText coupledLabel coupled (10 ∷ []) ++ mappingLine es)
 
 -- of the mapping the entries of the channels alone
 unfoldable pub headLines : OpusHead → List ℕ

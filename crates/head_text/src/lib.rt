@@ -1,13 +1,12 @@
 // The text of the program `head`: the fields of an identification header in words, a line each, put into a buffer.
 ghost use mathlib.Core.Path.{_≡_};
-ghost use mathlib.Core.List.{_∷_};
 ghost use Prim.Native.Nat.{_+_, _≤_};
 ghost use lib.ListN.{length};
 ghost use lib.Seq.{sets};
 ghost use Rattle.io.specs.Counts.{Counts};
 ghost use Rattle.opus_head.specs.Parts.{fieldsOf};
-ghost use Rattle.show.specs.Text.{decimal};
-ghost use Rattle.head_text.specs.Text.{numberLine, gainLine, entryTexts, mappingLine, openingLines, soundLines, streamLines, headLines, headText};
+ghost use Rattle.show.specs.Text.{numberText};
+ghost use Rattle.head_text.specs.Text.{gainLine, entryTexts, mappingLine, openingLines, soundLines, streamLines, headLines, headText};
 use opus_defines::Verdict;
 use opus_defines::wide_byte;
 use opus_head::OpusHead;
@@ -16,12 +15,11 @@ use opus_head::OpusHead;
 
 // A number between its label and the end of the line.
 fn put_number_line(out: &mut [u8], at: usize, label: &[u8], n: usize, end: &[u8]) -> usize
-    requires { ⌜ at + length (numberLine (now label) n (now end)) ≤ length (now out) ⌝ }
-    ensures bytes { λ _. ⌜ now (out .exit) ≡ sets (now (out .entry)) at (numberLine (now (label .entry)) n (now (end .entry))) ⌝ }
-    ensures next { λ r. ⌜ r ≡ at + length (numberLine (now (label .entry)) n (now (end .entry))) ⌝ }
+    requires { ⌜ at + length (numberText (now label) n (now end)) ≤ length (now out) ⌝ }
+    ensures bytes { λ _. ⌜ now (out .exit) ≡ sets (now (out .entry)) at (numberText (now (label .entry)) n (now (end .entry))) ⌝ }
+    ensures next { λ r. ⌜ r ≡ at + length (numberText (now (label .entry)) n (now (end .entry))) ⌝ }
 {
-    let mut next = show::put_text(out, at, label);
-    next = show::put_decimal(out, next, n);
+    let next = show::put_named(out, at, label, n);
     show::put_text(out, next, end)
 }
 
@@ -35,16 +33,6 @@ fn put_gain(out: &mut [u8], at: usize, gain: i16) -> usize
     show::put_text(out, next, b" in 1/256 dB\n")
 }
 
-// An entry of the mapping, behind a space.
-fn put_entry(out: &mut [u8], at: usize, e: usize) -> usize
-    requires { ⌜ at + length (32 ∷ decimal e) ≤ length (now out) ⌝ }
-    ensures bytes { λ _. ⌜ now (out .exit) ≡ sets (now (out .entry)) at (32 ∷ decimal e) ⌝ }
-    ensures next { λ r. ⌜ r ≡ at + length (32 ∷ decimal e) ⌝ }
-{
-    let next = show::put_text(out, at, b" ");
-    show::put_decimal(out, next, e)
-}
-
 fn put_entries(out: &mut [u8], at: usize, es: &[u8]) -> usize
     requires { ⌜ at + length (entryTexts (now es)) ≤ length (now out) ⌝ }
     ensures bytes { λ _. ⌜ now (out .exit) ≡ sets (now (out .entry)) at (entryTexts (now (es .entry))) ⌝ }
@@ -53,7 +41,7 @@ fn put_entries(out: &mut [u8], at: usize, es: &[u8]) -> usize
     let mut next = at;
     let mut i: usize = 0;
     while i < es.len() {
-        next = put_entry(out, next, wide_byte(es[i]));
+        next = show::put_named(out, next, b" ", wide_byte(es[i]));
         i += 1;
     }
     next

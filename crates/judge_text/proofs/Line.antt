@@ -16,11 +16,11 @@ use Rattle.opus_defines.specs.declared.Rule.{Rule}
 use Rattle.opus_defines.specs.declared.Rule.the-variants.{R1, R2, R3, R4, R5, R6, R7, R8}
 use Rattle.packet_judge.specs.declared.Judged.{Judged}
 use Rattle.packet_judge.specs.declared.Judged.the-variants.{Refused, Unreadable, Dirty, Longer, Clean}
-use Rattle.show.specs.Text.{decimal}
+use Rattle.show.specs.Text.{decimal, numberLine}
 use Rattle.show.proofs.Digits.{decimal-most}
-use Rattle.show.proofs.Laid.{laid-as, laid-first}
+use Rattle.show.proofs.Laid.{laid-as, laid-first, number-parts}
 use Rattle.show.proofs.Refusals.{refusal-most}
-use Rattle.judge_text.specs.Text.{unreadableLabel, dirtyText, longerLabel, cleanText, numberLine, unreadableLine, verdictLine, partMost}
+use Rattle.judge_text.specs.Text.{unreadableLabel, dirtyText, longerLabel, cleanText, unreadableLine, verdictLine, partMost}
 use Rattle.judge_text.specs.Text.{totalUnreadable, totalDirty, totalLonger, totalClean, totals}
 use Rattle.packet_judge.specs.Tallies.{sumOf}
 use Rattle.packet_judge.specs.declared.Tally.{Tally}
@@ -55,8 +55,8 @@ line-most Clean h = omega arith
 
 -- the rule's number as it is put, and the line by the kind of the verdict
 pub unreadable-parts : (rule : Rule) (place n : ℕ) → n ≡ ruleNumber rule
-    → unreadableLine rule place ≡ unreadableLabel ++ (decimal n ++ numberLine (32 ∷ []) place)
-unreadable-parts rule place n e = rw e
+    → unreadableLine rule place ≡ (unreadableLabel ++ decimal n) ++ numberLine (32 ∷ []) place
+unreadable-parts rule place n e = rw e (number-parts unreadableLabel (ruleNumber rule) (numberLine (32 ∷ []) place))
 
 module _ {j : Judged} where
   pub unreadable-is : {rule : Rule} {place : ℕ} → j ≡ Unreadable rule place → verdictLine j ≡ unreadableLine rule place

@@ -15,7 +15,7 @@ use Rattle.capture.specs.declared.NextRecord.{NextRecord}
 use Rattle.capture.specs.Finding.{packetAt, nextRecord}
 use Rattle.capture.specs.Reading.{behind, readings}
 use Rattle.captures_text.specs.Lines.{mostCapture}
-use Rattle.show.specs.Text.{decimal, refusal}
+use Rattle.show.specs.Text.{decimal, numberLine, refusal}
 use Rattle.packet_judge.specs.Tallies.{tallyOf, tallied}
 use Rattle.packet_judge.specs.declared.Tally.{Tally}
 use Rattle.judge_text.specs.declared.Lines.{Lines}
@@ -33,10 +33,6 @@ longerLabel = 108 ∷ 111 ∷ 110 ∷ 103 ∷ 101 ∷ 114 ∷ 32 ∷ []
 
 unfoldable pub cleanText : List ℕ
 cleanText = 99 ∷ 108 ∷ 101 ∷ 97 ∷ 110 ∷ 10 ∷ []
-
--- a number behind a label
-abbrev pub numberLine : List ℕ → ℕ → List ℕ
-numberLine label n = label ++ (decimal n ++ (10 ∷ []))
 
 abbrev pub unreadableLine : Rule → ℕ → List ℕ
 unreadableLine rule place = unreadableLabel ++ (decimal (ruleNumber rule) ++ numberLine (32 ∷ []) place)

@@ -11,7 +11,7 @@ ghost use Rattle.packet_judge.specs.declared.Judged.the-variants.{Refused};
 ghost use Rattle.capture.specs.Finding.{packetAt};
 ghost use Rattle.captures_text.specs.Lines.{mostCapture};
 ghost use Rattle.packet_judge.specs.Tallies.{sumOf};
-ghost use Rattle.judge_text.specs.Text.{numberLine, unreadableLine, verdictLine, totals, ending, linesIn, closed, partFrom, linesOf};
+ghost use Rattle.judge_text.specs.Text.{unreadableLine, verdictLine, totals, ending, linesIn, closed, partFrom, linesOf};
 use captures_text::MOST_CAPTURE;
 use opus_defines::Refusal;
 use opus_defines::Rule;
@@ -32,26 +32,14 @@ pub struct Lines {
 
 // ---- lines
 
-// A number behind a label, and the end of the line.
-fn put_number_line(out: &mut [u8], at: usize, label: &[u8], n: usize) -> usize
-    requires { ⌜ at + length (numberLine (now label) n) ≤ length (now out) ⌝ }
-    ensures bytes { λ _. ⌜ now (out .exit) ≡ sets (now (out .entry)) at (numberLine (now (label .entry)) n) ⌝ }
-    ensures next { λ r. ⌜ r ≡ at + length (numberLine (now (label .entry)) n) ⌝ }
-{
-    let mut next = show::put_text(out, at, label);
-    next = show::put_decimal(out, next, n);
-    show::put_text(out, next, b"\n")
-}
-
 fn put_unreadable(out: &mut [u8], at: usize, rule: Rule, place: usize) -> usize
     requires { ⌜ at + length (unreadableLine rule place) ≤ length (now out) ⌝ }
     ensures bytes { λ _. ⌜ now (out .exit) ≡ sets (now (out .entry)) at (unreadableLine rule place) ⌝ }
     ensures next { λ r. ⌜ r ≡ at + length (unreadableLine rule place) ⌝ }
 {
     let number = wide(opus_defines::rule_number(rule));
-    let mut next = show::put_text(out, at, b"unreadable ");
-    next = show::put_decimal(out, next, number);
-    put_number_line(out, next, b" ", place)
+    let next = show::put_named(out, at, b"unreadable ", number);
+    show::put_line(out, next, b" ", place)
 }
 
 // The line of a verdict. A packet of a capture is never refused.
@@ -65,7 +53,7 @@ fn put_verdict(out: &mut [u8], at: usize, j: Judged) -> usize
         Judged::Refused(_) => at,
         Judged::Unreadable(rule, place) => put_unreadable(out, at, rule, place),
         Judged::Dirty => show::put_text(out, at, b"dirty\n"),
-        Judged::Longer(least) => put_number_line(out, at, b"longer ", least),
+        Judged::Longer(least) => show::put_line(out, at, b"longer ", least),
         Judged::Clean => show::put_text(out, at, b"clean\n"),
     }
 }
@@ -75,10 +63,10 @@ fn put_totals(out: &mut [u8], at: usize, t: Tally) -> usize
     ensures bytes { λ _. ⌜ now (out .exit) ≡ sets (now (out .entry)) at (totals t) ⌝ }
     ensures next { λ r. ⌜ r ≡ at + length (totals t) ⌝ }
 {
-    let mut next = put_number_line(out, at, b"total unreadable ", t.unreadable);
-    next = put_number_line(out, next, b"total dirty ", t.dirty);
-    next = put_number_line(out, next, b"total longer ", t.longer);
-    put_number_line(out, next, b"total clean ", t.clean)
+    let mut next = show::put_line(out, at, b"total unreadable ", t.unreadable);
+    next = show::put_line(out, next, b"total dirty ", t.dirty);
+    next = show::put_line(out, next, b"total longer ", t.longer);
+    show::put_line(out, next, b"total clean ", t.clean)
 }
 
 // ---- verdicts

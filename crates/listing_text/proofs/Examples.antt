@@ -12,7 +12,7 @@ use Rattle.opus_header.specs.Header.{header}
 use Rattle.opus_header.specs.Compact.{compact}
 use Rattle.show.specs.Text.{places, decimal, integer, refusedLabel}
 use Rattle.listing_text.specs.Labels.{tocLabel, countLabel, timeLabel, payloadLabel, packetLabel, compactLabel, frameLabel, atLabel, lengthLabel}
-use Rattle.listing_text.specs.Listing.{line, frameLine, frameLines, times, sizes, packetText, reportLine, listed, listing}
+use Rattle.listing_text.specs.Listing.{frameLine, frameLines, times, sizes, packetText, reportLine, listed, listing}
 
 -- a line of it to a line, and to two where it says where a frame stands
 pub example : List ℕ
@@ -29,7 +29,7 @@ example =
     32 ∷ 108 ∷ 101 ∷ 110 ∷ 103 ∷ 116 ∷ 104 ∷ 32 ∷ 49 ∷ 10 ∷ []
 
 pub example-listing : listing (3 ∷ 2 ∷ 170 ∷ 187 ∷ []) ≡ example
-unfolding example listing listed packetText times sizes line frameLines frameLine decimal places read compact header duration samples
+unfolding example listing listed packetText times sizes frameLines frameLine decimal places read compact header duration samples
     tocLabel countLabel timeLabel payloadLabel packetLabel compactLabel frameLabel atLabel lengthLabel
 example-listing = refl
 
@@ -48,7 +48,7 @@ silence =
     32 ∷ 108 ∷ 101 ∷ 110 ∷ 103 ∷ 116 ∷ 104 ∷ 32 ∷ 48 ∷ 10 ∷ []
 
 pub silence-takes-time : listing (3 ∷ 2 ∷ []) ≡ silence
-unfolding silence listing listed packetText times sizes line frameLines frameLine decimal places read compact header duration samples
+unfolding silence listing listed packetText times sizes frameLines frameLine decimal places read compact header duration samples
     tocLabel countLabel timeLabel payloadLabel packetLabel compactLabel frameLabel atLabel lengthLabel
 silence-takes-time = refl
 

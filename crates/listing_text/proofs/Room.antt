@@ -11,19 +11,15 @@ use Rattle.opus_format.specs.Frames.{total}
 use Rattle.show.specs.Text.{decimal, integer, refusedLabel}
 use Rattle.show.proofs.Digits.{decimal-most}
 use Rattle.listing_text.specs.Labels.{tocLabel, countLabel, timeLabel, payloadLabel, packetLabel, compactLabel, frameLabel, atLabel, lengthLabel}
-use Rattle.listing_text.specs.Listing.{line, frameLine, frameLines, times, sizes, packetText, reportLine}
+use Rattle.listing_text.specs.Listing.{frameLine, frameLines, times, sizes, packetText, reportLine}
 
 digits-most : (n : ℕ) → n < 100000 → length (decimal n) ≤ 5
 digits-most n h = decimal-most n 4 h
 
-line-most : (label : List ℕ) (n : ℕ) → n < 100000 → length (line label n) ≤ length label + 6
-unfolding line
-line-most label n h = omega (arith, length-append label (decimal n ++ (10 ∷ [])), length-append (decimal n) (10 ∷ []), digits-most n h)
-
 frame-most : (i place n : ℕ) → i < 100000 → place < 100000 → n < 100000 → length (frameLine i place n) ≤ 34
 unfolding frameLine frameLabel atLabel lengthLabel
 frame-most i place n h k m =
-    simp length-append (omega (arith, digits-most i h, digits-most place k, line-most lengthLabel n m))
+    simp length-append (omega (arith, digits-most i h, digits-most place k, digits-most n m))
 
 lines-most : (i at : ℕ) (ns : List ℕ) → i + length ns ≤ 100000 → at + total ns < 100000 → length (frameLines i at ns) ≤ 34 * length ns
 unfolding frameLines
@@ -39,12 +35,12 @@ lines-most i at (n ∷ ns) h k =
 times-most : (toc : ℕ) (ns : List ℕ) → toc < 100000 → length ns ≤ 48 → time toc (length ns) < 100000 → length (times toc ns) ≤ 33
 unfolding times tocLabel countLabel timeLabel
 times-most toc ns h k m =
-    simp length-append (omega (arith, line-most tocLabel toc h, line-most countLabel (length ns) (omega arith), line-most timeLabel (time toc (length ns)) m))
+    simp length-append (omega (arith, digits-most toc h, digits-most (length ns) (omega arith), digits-most (time toc (length ns)) m))
 
 sizes-most : (first taken small : ℕ) → first < 100000 → taken < 100000 → small < 100000 → length (sizes first taken small) ≤ 41
 unfolding sizes payloadLabel packetLabel compactLabel
 sizes-most first taken small h k m =
-    simp length-append (omega (arith, line-most payloadLabel first h, line-most packetLabel taken k, line-most compactLabel small m))
+    simp length-append (omega (arith, digits-most first h, digits-most taken k, digits-most small m))
 
 pub packet-most : (toc : ℕ) (ns : List ℕ) (first taken small : ℕ) → toc < 100000 → length ns ≤ 48 → time toc (length ns) < 100000
     → first + total ns < 100000 → taken < 100000 → small < 100000 → length (packetText toc ns first taken small) ≤ 2048

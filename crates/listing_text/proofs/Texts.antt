@@ -9,28 +9,24 @@ use mir.Syntax.{w32}
 use mir.Val.{toZ, ofZ, SFits}
 use mir.ValLaws.{toZ-ofZ}
 use Rattle.opus_toc.specs.Toc.{time}
-use Rattle.show.specs.Text.{decimal, integer, refusedLabel}
+use Rattle.show.specs.Text.{decimal, integer, numberLine, refusedLabel}
 use Rattle.show.proofs.Laid.{Laid, Three, front-room, laid-as, laid-first}
 use Rattle.listing_text.specs.Labels.{tocLabel, countLabel, timeLabel, payloadLabel, packetLabel, compactLabel, frameLabel, atLabel, lengthLabel}
-use Rattle.listing_text.specs.Listing.{line, frameLine, frameLines, times, sizes, packetText, reportLine}
-
-pub line-parts : (label : List ℕ) (n : ℕ) → line label n ≡ (label ++ decimal n) ++ (10 ∷ [])
-unfolding line
-line-parts label n = rw append-assoc
+use Rattle.listing_text.specs.Listing.{frameLine, frameLines, times, sizes, packetText, reportLine}
 
 pub frame-parts : (l : List ℕ) (at i place n : ℕ) → at + length (frameLine i place n) ≤ length l
-    → Three l at (frameLine i place n) (frameLabel ++ decimal i) (atLabel ++ decimal place) (line lengthLabel n)
+    → Three l at (frameLine i place n) (frameLabel ++ decimal i) (atLabel ++ decimal place) (numberLine lengthLabel n)
 unfolding frameLine
 frame-parts l at i place n h =
     record { whole = rw (append-assoc frameLabel (decimal i), append-assoc atLabel (decimal place)); room = h }
 
 pub sizes-parts : (l : List ℕ) (at first taken small : ℕ) → at + length (sizes first taken small) ≤ length l
-    → Three l at (sizes first taken small) (line payloadLabel first) (line packetLabel taken) (line compactLabel small)
+    → Three l at (sizes first taken small) (numberLine payloadLabel first) (numberLine packetLabel taken) (numberLine compactLabel small)
 unfolding sizes
 sizes-parts l at first taken small h = record { whole = refl; room = h }
 
 pub times-parts : (l : List ℕ) (toc : ℕ) (ns : List ℕ) {t : ℕ} → t ≡ time toc (length ns) → length (times toc ns) ≤ length l
-    → Three l 0 (times toc ns) (line tocLabel toc) (line countLabel (length ns)) (line timeLabel t)
+    → Three l 0 (times toc ns) (numberLine tocLabel toc) (numberLine countLabel (length ns)) (numberLine timeLabel t)
 unfolding times
 times-parts l toc ns e h = record { whole = rw e; room = front-room l (times toc ns) h }
 
@@ -52,11 +48,11 @@ module _ (x : ℤ) where
 
     module _ (place : ℕ) where
       abbrev pub placed : List ℕ
-      placed = ruled ++ line (32 ∷ []) place
+      placed = ruled ++ numberLine (32 ∷ []) place
 
       module _ (f : SFits w32 x) where
         report-parts : reportLine x rule place ≡ placed
-        unfolding reportLine line
+        unfolding reportLine
         report-parts = rw (toZ-ofZ w32 x f, append-assoc (refusedLabel ++ integer x ++ (32 ∷ decimal rule)) (32 ∷ decimal place))
 
         pub report-laid : {l d : List ℕ} {next : ℕ} → Laid l 0 placed d next → Laid l 0 (reportLine x rule place) d next
@@ -67,7 +63,7 @@ module _ (x : ℤ) where
           place-room = laid-as l 0 report-parts (front-room l (reportLine x rule place) h)
 
           pub rule-room : 0 + length ruled ≤ length l
-          rule-room = laid-first l 0 ruled (line (32 ∷ []) place) place-room
+          rule-room = laid-first l 0 ruled (numberLine (32 ∷ []) place) place-room
 
           pub number-room : 0 + length numbered ≤ length l
           number-room = laid-first l 0 numbered ((32 ∷ []) ++ decimal rule) rule-room

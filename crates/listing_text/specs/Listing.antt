@@ -14,17 +14,13 @@ use Rattle.opus_toc.specs.Toc.{upperSix, time}
 use Rattle.opus_format.specs.Frames.{cut}
 use Rattle.opus_format.specs.Reading.{Reading, refused, accepted, read}
 use Rattle.opus_header.specs.Compact.{compact}
-use Rattle.show.specs.Text.{decimal, integer, refusedLabel}
+use Rattle.show.specs.Text.{decimal, integer, numberLine, refusedLabel}
 use Rattle.listing_text.specs.Labels.{tocLabel, countLabel, timeLabel, payloadLabel, packetLabel, compactLabel, frameLabel, atLabel, lengthLabel}
-
--- a label and a number
-unfoldable pub line : List ℕ → ℕ → List ℕ
-line label n = label ++ (decimal n ++ (10 ∷ []))
 
 -- ---- a packet that was read
 -- frame i stands at a place and has n bytes
 unfoldable pub frameLine : ℕ → ℕ → ℕ → List ℕ
-frameLine i at n = frameLabel ++ (decimal i ++ (atLabel ++ (decimal at ++ line lengthLabel n)))
+frameLine i at n = frameLabel ++ (decimal i ++ (atLabel ++ (decimal at ++ numberLine lengthLabel n)))
 
 -- frames of these lengths from frame i on, which stands at a place; each stands right behind the one before
 unfoldable pub frameLines : ℕ → ℕ → List ℕ → List ℕ
@@ -33,11 +29,11 @@ frameLines i at (n ∷ ns) = frameLine i at n ++ frameLines (suc i) (at + n) ns
 
 -- the TOC byte, how many frames, and how long they last
 unfoldable pub times : ℕ → List ℕ → List ℕ
-times toc ns = line tocLabel toc ++ (line countLabel (length ns) ++ line timeLabel (time toc (length ns)))
+times toc ns = numberLine tocLabel toc ++ (numberLine countLabel (length ns) ++ numberLine timeLabel (time toc (length ns)))
 
 -- the first frame's place, the packet's bytes, and those of the compact packet
 unfoldable pub sizes : ℕ → ℕ → ℕ → List ℕ
-sizes first taken small = line payloadLabel first ++ (line packetLabel taken ++ line compactLabel small)
+sizes first taken small = numberLine payloadLabel first ++ (numberLine packetLabel taken ++ numberLine compactLabel small)
 
 unfoldable pub packetText : ℕ → List ℕ → ℕ → ℕ → ℕ → List ℕ
 packetText toc ns first taken small = times toc ns ++ (sizes first taken small ++ frameLines 0 first ns)

@@ -12,30 +12,10 @@ ghost use Rattle.opus_format.specs.Frames.{total, longest};
 ghost use Rattle.opus_header.specs.Sums.{sumsOf};
 ghost use Rattle.opus_header.specs.Forms.{compactBytes};
 ghost use Rattle.show.specs.Text.{decimal};
-ghost use Rattle.listing_text.specs.Listing.{line, frameLine, frameLines, times, sizes, packetText, reportLine};
+ghost use Rattle.listing_text.specs.Listing.{frameLine, frameLines, times, sizes, packetText, reportLine};
 ghost use Rattle.listing_text.specs.Listing.{listing as Listing·listing};
 use opus_defines::Verdict;
 use opus_defines::wide;
-
-// ---- lines
-
-fn put_named(out: &mut [u8], at: usize, label: &[u8], n: usize) -> usize
-    requires { ⌜ at + length (now label ++ decimal n) ≤ length (now out) ⌝ }
-    ensures bytes { λ _. ⌜ now (out .exit) ≡ sets (now (out .entry)) at (now (label .entry) ++ decimal n) ⌝ }
-    ensures next { λ r. ⌜ r ≡ at + length (now (label .entry) ++ decimal n) ⌝ }
-{
-    let next = show::put_text(out, at, label);
-    show::put_decimal(out, next, n)
-}
-
-fn put_line(out: &mut [u8], at: usize, label: &[u8], n: usize) -> usize
-    requires { ⌜ at + length (line (now label) n) ≤ length (now out) ⌝ }
-    ensures bytes { λ _. ⌜ now (out .exit) ≡ sets (now (out .entry)) at (line (now (label .entry)) n) ⌝ }
-    ensures next { λ r. ⌜ r ≡ at + length (line (now (label .entry)) n) ⌝ }
-{
-    let next = put_named(out, at, label, n);
-    show::put_text(out, next, b"\n")
-}
 
 // ---- a packet that was read
 
@@ -46,9 +26,9 @@ fn put_times(out: &mut [u8], toc: u8, ns: &[u16]) -> usize
     ensures next { λ r. ⌜ r ≡ length (times toc (now (ns .entry))) ⌝ }
 {
     let time = opus_toc::time_48k(toc, ns.len() as u16);
-    let mut at = put_line(out, 0, b"toc ", toc as usize);
-    at = put_line(out, at, b"count ", ns.len());
-    put_line(out, at, b"time ", time as usize)
+    let mut at = show::put_line(out, 0, b"toc ", toc as usize);
+    at = show::put_line(out, at, b"count ", ns.len());
+    show::put_line(out, at, b"time ", time as usize)
 }
 
 fn put_sizes(out: &mut [u8], at: usize, first: usize, taken: usize, small: usize) -> usize
@@ -56,9 +36,9 @@ fn put_sizes(out: &mut [u8], at: usize, first: usize, taken: usize, small: usize
     ensures bytes { λ _. ⌜ now (out .exit) ≡ sets (now (out .entry)) at (sizes first taken small) ⌝ }
     ensures next { λ r. ⌜ r ≡ at + length (sizes first taken small) ⌝ }
 {
-    let mut next = put_line(out, at, b"payload ", first);
-    next = put_line(out, next, b"packet ", taken);
-    put_line(out, next, b"compact ", small)
+    let mut next = show::put_line(out, at, b"payload ", first);
+    next = show::put_line(out, next, b"packet ", taken);
+    show::put_line(out, next, b"compact ", small)
 }
 
 fn put_frame(out: &mut [u8], at: usize, i: usize, place: usize, n: usize) -> usize
@@ -66,9 +46,9 @@ fn put_frame(out: &mut [u8], at: usize, i: usize, place: usize, n: usize) -> usi
     ensures bytes { λ _. ⌜ now (out .exit) ≡ sets (now (out .entry)) at (frameLine i place n) ⌝ }
     ensures next { λ r. ⌜ r ≡ at + length (frameLine i place n) ⌝ }
 {
-    let mut next = put_named(out, at, b"frame ", i);
-    next = put_named(out, next, b" at ", place);
-    put_line(out, next, b" length ", n)
+    let mut next = show::put_named(out, at, b"frame ", i);
+    next = show::put_named(out, next, b" at ", place);
+    show::put_line(out, next, b" length ", n)
 }
 
 // Frames of lengths `ns`, the first at a place, each behind the one before.
@@ -124,8 +104,8 @@ fn put_report(out: &mut [u8], number: i32, rule: u16, place: u16) -> usize
 {
     let mut at = show::put_text(out, 0, b"refused ");
     at = show::put_number(out, at, number);
-    at = put_named(out, at, b" ", rule as usize);
-    put_line(out, at, b" ", place as usize)
+    at = show::put_named(out, at, b" ", rule as usize);
+    show::put_line(out, at, b" ", place as usize)
 }
 
 // ---- the listing

@@ -6,14 +6,16 @@
 --     copied-whole            a copy of the whole text
 --     front-room .. front-counts   the same at place 0, and its count
 --     Three .. three-laid     three texts
+--     number-parts            a number with its label, and what stands behind it
 -- Assumes nothing.
 use Prim.Native.Nat.{ℕ, _+_, _≤_}
 use native.Mathlib.Omega.{arith}
 use mathlib.Core.Path.{_≡_, sym, ap, _∙_}
-use mathlib.Core.List.{List, _++_}
+use mathlib.Core.List.{List, _++_, append-assoc}
 use lib.ListN.{length, length-append}
 use lib.Seq.{sets, length-sets, length-take-le, take-length}
 use Rattle.io.specs.Counts.{Counts}
+use Rattle.show.specs.Text.{decimal, numberText}
 use Rattle.blocks.specs.Blocks.{copied}
 use Rattle.blocks.proofs.Sets.{sets-append}
 
@@ -82,3 +84,6 @@ module _ {l : List ℕ} {at : ℕ} {t a b c : List ℕ} (w : Three l at t a b c)
 
       pub three-laid : {d″ : List ℕ} {next″ : ℕ} → Laid d′ next′ c d″ next″ → Laid l at t d″ next″
       three-laid n = rw (w .whole) (laid-then k (b ++ c) (laid-then m c n))
+
+pub number-parts : (label : List ℕ) (n : ℕ) (end : List ℕ) → numberText label n end ≡ (label ++ decimal n) ++ end
+number-parts label n end = rw append-assoc

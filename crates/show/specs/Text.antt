@@ -20,10 +20,17 @@ unfoldable pub integer : ℤ → List ℕ
 integer (pos n) = decimal n
 integer (negsuc n) = 45 ∷ decimal (suc n)
 
+-- a number behind its label, and what stands behind it; 10 is the end of a line
+abbrev pub numberText : List ℕ → ℕ → List ℕ → List ℕ
+numberText label n end = label ++ (decimal n ++ end)
+
+abbrev pub numberLine : List ℕ → ℕ → List ℕ
+numberLine label n = numberText label n (10 ∷ [])
+
 -- "refused "
 unfoldable pub refusedLabel : List ℕ
 refusedLabel = 114 ∷ 101 ∷ 102 ∷ 117 ∷ 115 ∷ 101 ∷ 100 ∷ 32 ∷ []
 
--- the line for what is refused, with the refusal's number; 10 is the end of a line
+-- the line for what is refused, with the refusal's number
 unfoldable pub refusal : ℤ → List ℕ
 refusal number = refusedLabel ++ (integer number ++ (10 ∷ []))

@@ -1,11 +1,12 @@
 // Text and numbers for the programs: written to standard output, and put into a buffer by functions that are proved to the byte.
 ghost use mathlib.Core.Path.{_≡_};
+ghost use mathlib.Core.List.{_++_};
 ghost use Prim.Native.Nat.{_+_, _≤_};
 ghost use lib.IntN.{natAbs};
 ghost use lib.ListN.{length};
 ghost use lib.Seq.{sets};
 ghost use Rattle.io.specs.Counts.{Counts};
-ghost use Rattle.show.specs.Text.{decimal as Text·decimal, integer, refusal};
+ghost use Rattle.show.specs.Text.{decimal as Text·decimal, integer, numberLine, refusal};
 use libc::STDOUT_FILENO;
 
 pub fn text(s: &[u8]) {
@@ -37,6 +38,26 @@ pub fn put_decimal(out: &mut [u8], at: usize, n: usize) -> usize
     let mut digits = [0u8; 20];
     let k = io::decimal(n as u64, &mut digits);
     put_text(out, at, &digits[..k])
+}
+
+// A number behind its label.
+pub fn put_named(out: &mut [u8], at: usize, label: &[u8], n: usize) -> usize
+    requires { ⌜ at + length (now label ++ Text·decimal n) ≤ length (now out) ⌝ }
+    ensures bytes { λ _. ⌜ now (out .exit) ≡ sets (now (out .entry)) at (now (label .entry) ++ Text·decimal n) ⌝ }
+    ensures next { λ r. ⌜ r ≡ at + length (now (label .entry) ++ Text·decimal n) ⌝ }
+{
+    let next = put_text(out, at, label);
+    put_decimal(out, next, n)
+}
+
+// The same as a line.
+pub fn put_line(out: &mut [u8], at: usize, label: &[u8], n: usize) -> usize
+    requires { ⌜ at + length (numberLine (now label) n) ≤ length (now out) ⌝ }
+    ensures bytes { λ _. ⌜ now (out .exit) ≡ sets (now (out .entry)) at (numberLine (now (label .entry)) n) ⌝ }
+    ensures next { λ r. ⌜ r ≡ at + length (numberLine (now (label .entry)) n) ⌝ }
+{
+    let next = put_named(out, at, label, n);
+    put_text(out, next, b"\n")
 }
 
 // A number at the front of `out`: at most twenty digits.

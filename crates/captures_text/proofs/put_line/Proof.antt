@@ -1,76 +1,57 @@
--- `captures_text::put_line` meets its contract: the three numbers, one behind another, and the end of the line.
+-- `captures_text::put_line` meets its contract: the three numbers, one behind another, the last one with the end of the line.
 -- Assumes nothing.
-use mathlib.Core.List.{[], _∷_}
+use mathlib.Core.Path.{refl}
+use mathlib.Core.List.{[], _∷_, _++_}
 use borrow.Author.Needs.{needs}
-use Rattle.show.specs.Text.{decimal}
-use Rattle.show.proofs.Laid.{Laid, laid-ends, laid-room, laid-then}
-use Rattle.captures_text.proofs.Line.{threeNumbers, twoNumbers, line-parts, line-room, three-room, two-room, one-room}
+use Rattle.capture.specs.declared.NextRecord.{NextRecord}
+use Rattle.show.specs.Text.{decimal, numberLine}
+use Rattle.show.proofs.Laid.{Laid, Three, laid-ends, first-room, second-room, third-room, three-laid}
+use Rattle.captures_text.specs.Lines.{recordLine}
+use Rattle.captures_text.proofs.Line.{line-parts}
 use Rattle.captures_text.proofs.put_line.Statement.{statement}
 use Rattle.captures_text.proofs.put_line.Tie as tie
 
-put-decimal-requires : tie.Need-put-decimal-requires
-put-decimal-requires c κs =
-    let s = c .before .before .before in
-    one-room (s .args .out .now) (s .args .at) (s .args .r) (s .pre)
+parts : (s : tie.Start)
+    → let a = s .args in
+    Three (a .out .now) (a .at) (recordLine (a .r)) (decimal (a .r .line)) ((32 ∷ []) ++ decimal (a .r .place)) (numberLine (32 ∷ []) (a .r .length))
+parts s = line-parts (s .args .out .now) (s .args .at) (s .args .r) (s .pre)
 
--- the way back from each number to the one before it, and from the first to the entry
+-- the way back from the second number to the first, and from that to the entry
 abbrev entry : tie.After-put-decimal → tie.Start
 entry c = c .before .before .before .before
 
-abbrev first : tie.After-put-spaced → tie.After-put-decimal
-first c = c .before .before .before .before
+abbrev first : tie.After-put-named → tie.After-put-decimal
+first c = c .before .before .before .before .before
 
-abbrev second : tie.After-put-spaced2 → tie.After-put-spaced
-second c = c .before .before .before .before
+put-decimal-requires : tie.Need-put-decimal-requires
+put-decimal-requires c κs = first-room (parts (c .before .before .before))
 
--- what stands behind each of the numbers
+-- what stands behind the first call, and behind the second
 one : (c : tie.After-put-decimal)
     → let a = entry c .args in Laid (a .out .now) (a .at) (decimal (a .r .line)) (c .put-decimal .last .0) (c .put-decimal .result)
 one c = record { bytes = c .put-decimal .ensures .0; place = c .put-decimal .ensures .1 }
 
-two : (c : tie.After-put-spaced)
-    → let a = entry (first c) .args in
-    Laid (a .out .now) (a .at) (twoNumbers (a .r)) (c .put-spaced .last .0) (c .put-spaced .result)
-two c =
-    let p = first c in
+two : (c : tie.After-put-named)
+    → let p = first c in
     let a = entry p .args in
-    laid-then (one p) (32 ∷ decimal (a .r .place)) (record { bytes = c .put-spaced .ensures .0; place = c .put-spaced .ensures .1 })
+    Laid (p .put-decimal .last .0) (p .put-decimal .result) ((32 ∷ []) ++ decimal (a .r .place)) (c .put-named .last .0) (c .put-named .result)
+two c = record { bytes = c .put-named .ensures .0; place = c .put-named .ensures .1 }
 
-three : (c : tie.After-put-spaced2)
-    → let a = entry (first (second c)) .args in
-    Laid (a .out .now) (a .at) (threeNumbers (a .r)) (c .put-spaced2 .last .0) (c .put-spaced2 .result)
-three c =
-    let q = second c in
-    let a = entry (first q) .args in
-    laid-then (two q) (32 ∷ decimal (a .r .length)) (record { bytes = c .put-spaced2 .ensures .0; place = c .put-spaced2 .ensures .1 })
+put-named-requires : tie.Need-put-named-requires
+put-named-requires c κs = let p = c .before .before .before .before in second-room (parts (entry p)) (one p)
 
-put-spaced-requires : tie.Need-put-spaced-requires
-put-spaced-requires c κs =
-    let p = c .before .before .before in
-    let s = entry p in
-    let a = s .args in
-    laid-room (one p) (32 ∷ decimal (a .r .place)) (two-room (a .out .now) (a .at) (a .r) (s .pre))
-
-put-spaced-requires-2 : tie.Need-put-spaced-requires-2
-put-spaced-requires-2 c κs =
-    let q = c .before .before .before in
-    let s = entry (first q) in
-    let a = s .args in
-    laid-room (two q) (32 ∷ decimal (a .r .length)) (three-room (a .out .now) (a .at) (a .r) (s .pre))
-
-put-text-requires : tie.Need-put-text-requires
-put-text-requires c κs =
-    let t = c .before .before .before .before in
-    let s = entry (first (second t)) in
-    let a = s .args in
-    laid-room (three t) (10 ∷ []) (line-room (a .out .now) (a .at) (a .r) (s .pre))
+put-line-requires : tie.Need-put-line-requires
+put-line-requires c κs =
+    let q = c .before .before .before .before in
+    let p = first q in
+    third-room (parts (entry p)) (one p) (two q)
 
 returns : tie.Need-returns
 returns c =
-    let e = c .before .before in
-    let t = e .before .before .before .before .before in
-    let a = entry (first (second t)) .args in
-    laid-ends (laid-then (three t) (10 ∷ []) (record { bytes = e .put-text .ensures .0; place = e .put-text .ensures .1 })) (line-parts (a .r))
+    let r = c .before .before in
+    let q = r .before .before .before .before .before in
+    let p = first q in
+    laid-ends (three-laid (parts (entry p)) (one p) (two q) (record { bytes = r .put-line .ensures .0; place = r .put-line .ensures .1 })) refl
 
 pub put-line-spec : {M : Type 1} → statement M
 put-line-spec =
@@ -78,9 +59,9 @@ put-line-spec =
     (tie.spec
     (λ c. search needs)
     put-decimal-requires
-    put-spaced-requires
-    put-spaced-requires-2
     (λ c. search needs)
-    put-text-requires
+    put-named-requires
+    (λ c. search needs)
+    put-line-requires
     (λ c. search needs)
     returns)

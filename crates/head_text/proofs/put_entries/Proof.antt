@@ -11,14 +11,14 @@ use Rattle.head_text.proofs.put_entries.Statement.{statement}
 use Rattle.head_text.proofs.put_entries.Tie as tie
 
 abbrev Inv-loop : tie.InvT-loop
-Inv-loop out₀ at es next₀ i₀ out next i = Put out₀ at es out next i
+Inv-loop out₀ at es next₀ i₀ t6 out next i = Put out₀ at es out next i
 
 abbrev μ-loop : tie.MeasureT-loop
-μ-loop out₀ at es next₀ i₀ out next i = length es - i
+μ-loop out₀ at es next₀ i₀ t6 out next i = length es - i
 
 -- the turn of the loop, and the entry
 abbrev turn : tie.After-wide-byte Inv-loop μ-loop → tie.At-loop Inv-loop μ-loop
-turn c = c .before .before .before .before
+turn c = c .before .before .before .before .before
 
 abbrev entry : tie.After-wide-byte Inv-loop μ-loop → tie.Start Inv-loop μ-loop
 entry c = turn c .before .before .before
@@ -26,14 +26,14 @@ entry c = turn c .before .before .before
 loop-holds : tie.Need-loop-holds Inv-loop μ-loop
 loop-holds c = let a = c .before .before .args in put-start (a .out .now) (a .at) (a .es .now)
 
-put-entry-requires : tie.Need-put-entry-requires Inv-loop μ-loop
-put-entry-requires c κs = put-room (turn c .loop .inv) (c .wide-byte .ensures .0) (omega arith) (entry c .pre)
+put-named-requires : tie.Need-put-named-requires Inv-loop μ-loop
+put-named-requires c κs = put-room (turn c .loop .inv) (c .wide-byte .ensures .0) (omega arith) (entry c .pre)
 
 loop-again : tie.Need-loop-again Inv-loop μ-loop
 loop-again c =
     let p = c .before .before in
     let w = p .before in
-    put-more (turn w .loop .inv) (w .wide-byte .ensures .0) (omega arith) (record { bytes = p .put-entry .ensures .0; place = p .put-entry .ensures .1 })
+    put-more (turn w .loop .inv) (w .wide-byte .ensures .0) (omega arith) (record { bytes = p .put-named .ensures .0; place = p .put-named .ensures .1 })
 
 same-length : tie.Need-same-length Inv-loop μ-loop
 same-length c = put-length (c .before .loop .inv)
@@ -49,8 +49,9 @@ put-entries-spec =
     μ-loop
     loop-holds
     (λ c. search needs)
+    (λ c. search needs)
     (λ c κs. search needs)
-    put-entry-requires
+    put-named-requires
     (λ c. search needs)
     (λ c. search needs)
     loop-again

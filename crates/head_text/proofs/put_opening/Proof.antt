@@ -3,16 +3,17 @@
 use mathlib.Core.List.{[], _∷_}
 use borrow.Author.Needs.{needs}
 use Rattle.show.proofs.Laid.{Laid, Three, front-ends, first-room, second-room, third-room, three-laid}
+use Rattle.show.specs.Text.{numberText}
 use Rattle.head_text.specs.Labels.{versionLabel, channelsLabel, skipLabel, samplesEnd}
-use Rattle.head_text.specs.Text.{numberLine, openingLines}
+use Rattle.head_text.specs.Text.{openingLines}
 use Rattle.head_text.proofs.Texts.{opening-parts}
 use Rattle.head_text.proofs.put_opening.Statement.{statement}
 use Rattle.head_text.proofs.put_opening.Tie as tie
 
 parts : (s : tie.Start)
     → let a = s .args in
-    Three (a .out .now) 0 (openingLines (a .version) (a .channels) (a .skip)) (numberLine versionLabel (a .version) (10 ∷ []))
-    (numberLine channelsLabel (a .channels) (10 ∷ [])) (numberLine skipLabel (a .skip) samplesEnd)
+    Three (a .out .now) 0 (openingLines (a .version) (a .channels) (a .skip)) (numberText versionLabel (a .version) (10 ∷ []))
+    (numberText channelsLabel (a .channels) (10 ∷ [])) (numberText skipLabel (a .skip) samplesEnd)
 parts s = let a = s .args in opening-parts (a .out .now) (a .version) (a .channels) (a .skip) (s .pre)
 
 -- the way back from the second line to the first, and from there to the entry
@@ -29,14 +30,14 @@ put-number-line-requires c κs = first-room (parts (c .before .before .before .b
 -- what stands behind the first line, and behind the second
 one : (c : tie.After-put-number-line)
     → let a = entry c .args in
-    Laid (a .out .now) 0 (numberLine versionLabel (a .version) (10 ∷ [])) (c .put-number-line .last .0) (c .put-number-line .result)
+    Laid (a .out .now) 0 (numberText versionLabel (a .version) (10 ∷ [])) (c .put-number-line .last .0) (c .put-number-line .result)
 unfolding versionLabel
 one c = record { bytes = c .put-number-line .ensures .0; place = c .put-number-line .ensures .1 }
 
 two : (c : tie.After-put-number-line2)
     → let p = first c in
     let a = entry p .args in
-    Laid (p .put-number-line .last .0) (p .put-number-line .result) (numberLine channelsLabel (a .channels) (10 ∷ []))
+    Laid (p .put-number-line .last .0) (p .put-number-line .result) (numberText channelsLabel (a .channels) (10 ∷ []))
     (c .put-number-line2 .last .0) (c .put-number-line2 .result)
 unfolding channelsLabel
 two c = record { bytes = c .put-number-line2 .ensures .0; place = c .put-number-line2 .ensures .1 }

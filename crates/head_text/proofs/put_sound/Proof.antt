@@ -4,16 +4,17 @@ use mathlib.Core.Path.{refl}
 use mathlib.Core.List.{[], _∷_}
 use borrow.Author.Needs.{needs}
 use Rattle.show.proofs.Laid.{Laid, Three, laid-ends, first-room, second-room, third-room, three-laid}
+use Rattle.show.specs.Text.{numberText}
 use Rattle.head_text.specs.Labels.{rateLabel, hertzEnd, familyLabel}
-use Rattle.head_text.specs.Text.{numberLine, gainLine, soundLines}
+use Rattle.head_text.specs.Text.{gainLine, soundLines}
 use Rattle.head_text.proofs.Texts.{passed, sound-parts}
 use Rattle.head_text.proofs.put_sound.Statement.{statement}
 use Rattle.head_text.proofs.put_sound.Tie as tie
 
 parts : (s : tie.Start)
     → let a = s .args in
-    Three (a .out .now) (a .at) (soundLines (a .rate) (a .gain) (a .family)) (numberLine rateLabel (a .rate) hertzEnd) (gainLine (passed (a .gain)))
-    (numberLine familyLabel (a .family) (10 ∷ []))
+    Three (a .out .now) (a .at) (soundLines (a .rate) (a .gain) (a .family)) (numberText rateLabel (a .rate) hertzEnd) (gainLine (passed (a .gain)))
+    (numberText familyLabel (a .family) (10 ∷ []))
 parts s = let a = s .args in sound-parts (a .gain) (s .fits .gain) (a .out .now) (a .at) (a .rate) (a .family) (s .pre)
 
 -- the way back from the second line to the first, and from there to the entry
@@ -30,7 +31,7 @@ put-number-line-requires c κs = first-room (parts (c .before .before .before .b
 -- what stands behind the first line, and behind the second
 one : (c : tie.After-put-number-line)
     → let a = entry c .args in
-    Laid (a .out .now) (a .at) (numberLine rateLabel (a .rate) hertzEnd) (c .put-number-line .last .0) (c .put-number-line .result)
+    Laid (a .out .now) (a .at) (numberText rateLabel (a .rate) hertzEnd) (c .put-number-line .last .0) (c .put-number-line .result)
 unfolding rateLabel hertzEnd
 one c = record { bytes = c .put-number-line .ensures .0; place = c .put-number-line .ensures .1 }
 

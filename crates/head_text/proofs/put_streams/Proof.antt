@@ -4,16 +4,17 @@ use mathlib.Core.Path.{refl}
 use mathlib.Core.List.{[], _∷_}
 use borrow.Author.Needs.{needs}
 use Rattle.show.proofs.Laid.{Laid, Three, laid-ends, first-room, second-room, third-room, three-laid}
+use Rattle.show.specs.Text.{numberText}
 use Rattle.head_text.specs.Labels.{streamsLabel, coupledLabel}
-use Rattle.head_text.specs.Text.{numberLine, mappingLine, streamLines}
+use Rattle.head_text.specs.Text.{mappingLine, streamLines}
 use Rattle.head_text.proofs.Texts.{streams-parts}
 use Rattle.head_text.proofs.put_streams.Statement.{statement}
 use Rattle.head_text.proofs.put_streams.Tie as tie
 
 parts : (s : tie.Start)
     → let a = s .args in
-    Three (a .out .now) (a .at) (streamLines (a .streams) (a .coupled) (a .es .now)) (numberLine streamsLabel (a .streams) (10 ∷ []))
-    (numberLine coupledLabel (a .coupled) (10 ∷ [])) (mappingLine (a .es .now))
+    Three (a .out .now) (a .at) (streamLines (a .streams) (a .coupled) (a .es .now)) (numberText streamsLabel (a .streams) (10 ∷ []))
+    (numberText coupledLabel (a .coupled) (10 ∷ [])) (mappingLine (a .es .now))
 parts s = let a = s .args in streams-parts (a .out .now) (a .at) (a .streams) (a .coupled) (a .es .now) (s .pre)
 
 -- the way back from the second line to the first, and from there to the entry
@@ -30,14 +31,14 @@ put-number-line-requires c κs = first-room (parts (c .before .before .before .b
 -- what stands behind the first line, and behind the second
 one : (c : tie.After-put-number-line)
     → let a = entry c .args in
-    Laid (a .out .now) (a .at) (numberLine streamsLabel (a .streams) (10 ∷ [])) (c .put-number-line .last .0) (c .put-number-line .result)
+    Laid (a .out .now) (a .at) (numberText streamsLabel (a .streams) (10 ∷ [])) (c .put-number-line .last .0) (c .put-number-line .result)
 unfolding streamsLabel
 one c = record { bytes = c .put-number-line .ensures .0; place = c .put-number-line .ensures .1 }
 
 two : (c : tie.After-put-number-line2)
     → let p = first c in
     let a = entry p .args in
-    Laid (p .put-number-line .last .0) (p .put-number-line .result) (numberLine coupledLabel (a .coupled) (10 ∷ []))
+    Laid (p .put-number-line .last .0) (p .put-number-line .result) (numberText coupledLabel (a .coupled) (10 ∷ []))
     (c .put-number-line2 .last .0) (c .put-number-line2 .result)
 unfolding coupledLabel
 two c = record { bytes = c .put-number-line2 .ensures .0; place = c .put-number-line2 .ensures .1 }

@@ -18,9 +18,9 @@ put-text-requires c κs =
     let s = c .before .before .before .before .before in
     laid-as (s .args .out .now) (s .args .at) (dirty-is (c .before .before .enum-told2 .given .1)) (s .pre .1)
 
-put-number-line-requires : tie.Need-put-number-line-requires
+put-line-requires : tie.Need-put-line-requires
 unfolding longerLabel
-put-number-line-requires c κs =
+put-line-requires c κs =
     let s = c .before .before .before .before .before .before in
     laid-as (s .args .out .now) (s .args .at) (longer-is (c .before .before .before .j2 .given .1)) (s .pre .1)
 
@@ -47,7 +47,7 @@ returns-3 c =
 returns-4 : tie.Need-returns-4
 unfolding longerLabel
 returns-4 c =
-    let p = c .before .before .put-number-line in
+    let p = c .before .before .put-line in
     laid-ends (record { bytes = p .ensures .0; place = p .ensures .1 }) (longer-is (c .before .before .before .before .before .before .j2 .given .1))
 
 returns-5 : tie.Need-returns-5
@@ -68,7 +68,7 @@ put-verdict-spec =
     put-text-requires
     (λ c. search needs)
     (λ c. search needs)
-    put-number-line-requires
+    put-line-requires
     (λ c. search needs)
     (λ c. search needs)
     put-text-requires-2

@@ -4,9 +4,8 @@ use mathlib.Core.List.{[], _∷_, _++_}
 use mir.Syntax.{w32}
 use mir.Val.{toZ, ofZ}
 use borrow.Author.Needs.{needs}
-use Rattle.show.specs.Text.{decimal, integer, refusedLabel}
+use Rattle.show.specs.Text.{decimal, integer, numberLine, refusedLabel}
 use Rattle.show.proofs.Laid.{Laid, laid-room, laid-then, front-ends}
-use Rattle.listing_text.specs.Listing.{line}
 use Rattle.listing_text.proofs.Texts.{numbered, ruled, report-laid, word-room, number-room, rule-room, place-room}
 use Rattle.listing_text.proofs.put_report.Statement.{statement}
 use Rattle.listing_text.proofs.put_report.Tie as tie
@@ -70,7 +69,7 @@ put-line-requires c κs =
     let t = c .before .before .before .before in
     let s = entry (word (first t)) in
     let a = s .args in
-    laid-room (three t) (line (32 ∷ []) (a .place)) (place-room (a .number) (a .rule) (a .place) (s .fits .number) (a .out .now) (s .pre))
+    laid-room (three t) (numberLine (32 ∷ []) (a .place)) (place-room (a .number) (a .rule) (a .place) (s .fits .number) (a .out .now) (s .pre))
 
 returns : tie.Need-returns
 returns c =
@@ -80,7 +79,7 @@ returns c =
     let a = s .args in
     front-ends
     (report-laid (a .number) (a .rule) (a .place) (s .fits .number)
-    (laid-then (three t) (line (32 ∷ []) (a .place)) (record { bytes = e .put-line .ensures .0; place = e .put-line .ensures .1 })))
+    (laid-then (three t) (numberLine (32 ∷ []) (a .place)) (record { bytes = e .put-line .ensures .0; place = e .put-line .ensures .1 })))
 
 pub put-report-spec : {M : Type 1} → statement M
 put-report-spec =

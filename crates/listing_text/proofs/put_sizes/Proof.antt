@@ -4,7 +4,7 @@ use mathlib.Core.Path.{refl}
 use borrow.Author.Needs.{needs}
 use Rattle.show.proofs.Laid.{Laid, laid-ends, first-room, second-room, third-room, three-laid}
 use Rattle.listing_text.specs.Labels.{payloadLabel, packetLabel, compactLabel}
-use Rattle.listing_text.specs.Listing.{line}
+use Rattle.show.specs.Text.{numberLine}
 use Rattle.listing_text.proofs.Texts.{sizes-parts}
 use Rattle.listing_text.proofs.put_sizes.Statement.{statement}
 use Rattle.listing_text.proofs.put_sizes.Tie as tie
@@ -25,14 +25,14 @@ first c = c .before .before .before .before .before
 
 -- what stands behind the first call, and behind the second
 one : (c : tie.After-put-line)
-    → let a = entry c .args in Laid (a .out .now) (a .at) (line payloadLabel (a .first)) (c .put-line .last .0) (c .put-line .result)
+    → let a = entry c .args in Laid (a .out .now) (a .at) (numberLine payloadLabel (a .first)) (c .put-line .last .0) (c .put-line .result)
 unfolding payloadLabel
 one c = record { bytes = c .put-line .ensures .0; place = c .put-line .ensures .1 }
 
 two : (c : tie.After-put-line2)
     → let p = first c in
     let a = entry p .args in
-    Laid (p .put-line .last .0) (p .put-line .result) (line packetLabel (a .taken)) (c .put-line2 .last .0) (c .put-line2 .result)
+    Laid (p .put-line .last .0) (p .put-line .result) (numberLine packetLabel (a .taken)) (c .put-line2 .last .0) (c .put-line2 .result)
 unfolding packetLabel
 two c = record { bytes = c .put-line2 .ensures .0; place = c .put-line2 .ensures .1 }
 

@@ -4,7 +4,7 @@ use lib.ListN.{length}
 use borrow.Author.Needs.{needs}
 use Rattle.show.proofs.Laid.{Laid, front-ends, first-room, second-room, third-room, three-laid}
 use Rattle.listing_text.specs.Labels.{tocLabel, countLabel, timeLabel}
-use Rattle.listing_text.specs.Listing.{line}
+use Rattle.show.specs.Text.{numberLine}
 use Rattle.listing_text.proofs.Texts.{times-parts}
 use Rattle.listing_text.proofs.put_times.Statement.{statement}
 use Rattle.listing_text.proofs.put_times.Tie as tie
@@ -30,14 +30,14 @@ first c = c .before .before .before .before .before
 -- what stands behind the first line, and behind the second
 one : (c : tie.After-put-line)
     → let a = entry c .args in
-    Laid (a .out .now) 0 (line tocLabel (a .toc)) (c .put-line .last .0) (c .put-line .result)
+    Laid (a .out .now) 0 (numberLine tocLabel (a .toc)) (c .put-line .last .0) (c .put-line .result)
 unfolding tocLabel
 one c = record { bytes = c .put-line .ensures .0; place = c .put-line .ensures .1 }
 
 two : (c : tie.After-put-line2)
     → let p = first c in
     let a = entry p .args in
-    Laid (p .put-line .last .0) (p .put-line .result) (line countLabel (length (a .ns .now))) (c .put-line2 .last .0) (c .put-line2 .result)
+    Laid (p .put-line .last .0) (p .put-line .result) (numberLine countLabel (length (a .ns .now))) (c .put-line2 .last .0) (c .put-line2 .result)
 unfolding countLabel
 two c = record { bytes = c .put-line2 .ensures .0; place = c .put-line2 .ensures .1 }
 

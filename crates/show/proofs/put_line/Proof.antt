@@ -1,19 +1,18 @@
--- `listing_text::put_line` meets its contract: the label with its number, and the end of the line.
+-- `show::put_line` meets its contract: the label with its number, and the end of the line.
 -- Assumes nothing.
 use mathlib.Core.List.{[], _∷_, _++_}
 use borrow.Author.Needs.{needs}
 use Rattle.show.specs.Text.{decimal}
-use Rattle.show.proofs.Laid.{Laid, laid-as, laid-ends, laid-first, laid-room, laid-then}
-use Rattle.listing_text.proofs.Texts.{line-parts}
-use Rattle.listing_text.proofs.put_line.Statement.{statement}
-use Rattle.listing_text.proofs.put_line.Tie as tie
+use Rattle.show.proofs.Laid.{Laid, laid-as, laid-ends, laid-first, laid-room, laid-then, number-parts}
+use Rattle.show.proofs.put_line.Statement.{statement}
+use Rattle.show.proofs.put_line.Tie as tie
 
 put-named-requires : tie.Need-put-named-requires
 put-named-requires c κs =
     let s = c .before .before .before in
     let a = s .args in
     laid-first (a .out .now) (a .at) (a .label .now ++ decimal (a .n)) (10 ∷ [])
-    (laid-as (a .out .now) (a .at) (line-parts (a .label .now) (a .n)) (s .pre))
+    (laid-as (a .out .now) (a .at) (number-parts (a .label .now) (a .n) (10 ∷ [])) (s .pre))
 
 named : (c : tie.After-put-named)
     → let a = c .before .before .before .before .args in
@@ -25,14 +24,14 @@ put-text-requires c κs =
     let p = c .before .before .before .before in
     let s = p .before .before .before .before in
     let a = s .args in
-    laid-room (named p) (10 ∷ []) (laid-as (a .out .now) (a .at) (line-parts (a .label .now) (a .n)) (s .pre))
+    laid-room (named p) (10 ∷ []) (laid-as (a .out .now) (a .at) (number-parts (a .label .now) (a .n) (10 ∷ [])) (s .pre))
 
 returns : tie.Need-returns
 returns c =
     let t = c .before .before .put-text in
     let p = c .before .before .before .before .before .before .before in
     let a = p .before .before .before .before .args in
-    laid-ends (laid-then (named p) (10 ∷ []) (record { bytes = t .ensures .0; place = t .ensures .1 })) (line-parts (a .label .now) (a .n))
+    laid-ends (laid-then (named p) (10 ∷ []) (record { bytes = t .ensures .0; place = t .ensures .1 })) (number-parts (a .label .now) (a .n) (10 ∷ []))
 
 pub put-line-spec : {M : Type 1} → statement M
 put-line-spec =

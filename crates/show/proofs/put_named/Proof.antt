@@ -1,11 +1,11 @@
--- `listing_text::put_named` meets its contract: the label, and the number behind it.
+-- `show::put_named` meets its contract: the label, and the number behind it.
 -- Assumes nothing.
 use mathlib.Core.Path.{refl}
 use borrow.Author.Needs.{needs}
 use Rattle.show.specs.Text.{decimal}
 use Rattle.show.proofs.Laid.{Laid, laid-ends, laid-first, laid-room, laid-then}
-use Rattle.listing_text.proofs.put_named.Statement.{statement}
-use Rattle.listing_text.proofs.put_named.Tie as tie
+use Rattle.show.proofs.put_named.Statement.{statement}
+use Rattle.show.proofs.put_named.Tie as tie
 
 put-text-requires : tie.Need-put-text-requires
 put-text-requires c κs =
