@@ -1,8 +1,10 @@
-// Blocks of bytes copied and filled; block_moves moves them. Each contract is one equation on the whole buffer.
+// Blocks of bytes copied, filled, and moved within a buffer. Each contract is one equation on the whole buffer.
 //
 // Bytes are copied and moved in pieces, each read whole into a buffer before any of it is written. Of a piece whose width is a constant the compiler
 // makes wide loads and stores, of any other one call of memmove, and leaves the buffer out; where it does not, bench/run --stack shows it. A block of up
 // to 128 bytes is two pieces of one width, of which the last may lie partly over the first.
+
+pub mod moves;
 
 ghost use mathlib.Core.Path.{_≡_};
 ghost use Prim.Native.Nat.{_+_, _≤_};

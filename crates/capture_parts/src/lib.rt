@@ -68,6 +68,6 @@ pub fn keep_rest(buf: &mut [u8], held: usize, part: usize) -> usize
     ensures held { λ r. ⌜ r ≡ held - part ⌝ }
 {
     let n = held - part;
-    block_moves::move_down(buf, part, 0, n);
+    blocks::moves::move_down(buf, part, 0, n);
     n
 }

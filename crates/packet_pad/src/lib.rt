@@ -35,9 +35,9 @@ fn move_block(data: &mut [u8], from: usize, to: usize, n: usize)
     ensures { λ _. ⌜ now («data» .exit) ≡ moved (now («data» .entry)) from to n ⌝ }
 {
     if to <= from {
-        block_moves::move_down(data, from, to, n);
+        blocks::moves::move_down(data, from, to, n);
     } else {
-        block_moves::move_up(data, from, to, n);
+        blocks::moves::move_up(data, from, to, n);
     }
 }
 

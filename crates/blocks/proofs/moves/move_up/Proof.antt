@@ -1,14 +1,14 @@
--- `block_moves::move_up` meets its contract. The invariant of its loop: all but the first i bytes are moved. The measure is i.
+-- `blocks::moves::move_up` meets its contract. The invariant of its loop: all but the first i bytes are moved. The measure is i.
 -- Assumes nothing.
 use mathlib.Core.Path.{_≡_, refl}
 use Prim.Native.Nat.{_+_, _≤_, _-_}
 use native.Mathlib.Omega.{arith}
 use lib.ListN.{length}
 use borrow.Author.Needs.{needs}
 use Rattle.blocks.specs.Blocks.{moved}
 use Rattle.blocks.proofs.Pieces.{copied-none, moved-prev}
-use Rattle.block_moves.proofs.move_up.Statement.{statement}
-use Rattle.block_moves.proofs.move_up.Tie as tie
+use Rattle.blocks.proofs.moves.move_up.Statement.{statement}
+use Rattle.blocks.proofs.moves.move_up.Tie as tie
 
 abbrev Inv-loop : tie.InvT-loop
 Inv-loop s₀ from to n i₀ s i = (i ≤ n) × ((s ≡ moved s₀ (from + i) (to + i) (n - i)) × (length s ≡ length s₀))

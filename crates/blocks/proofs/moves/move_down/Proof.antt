@@ -1,14 +1,14 @@
--- `block_moves::move_down` meets its contract. The invariant of its loop: the first i bytes are moved. The measure is what is left of n.
+-- `blocks::moves::move_down` meets its contract. The invariant of its loop: the first i bytes are moved. The measure is what is left of n.
 -- Assumes nothing.
 use mathlib.Core.Path.{_≡_}
 use Prim.Native.Nat.{_+_, _≤_, _-_}
 use native.Mathlib.Omega.{arith}
 use lib.ListN.{length}
 use borrow.Author.Needs.{needs}
 use Rattle.blocks.specs.Blocks.{moved}
 use Rattle.blocks.proofs.Pieces.{moved-next}
-use Rattle.block_moves.proofs.move_down.Statement.{statement}
-use Rattle.block_moves.proofs.move_down.Tie as tie
+use Rattle.blocks.proofs.moves.move_down.Statement.{statement}
+use Rattle.blocks.proofs.moves.move_down.Tie as tie
 
 abbrev Inv-loop : tie.InvT-loop
 Inv-loop s₀ from to n i₀ s i = (i ≤ n) × ((s ≡ moved s₀ from to i) × (length s ≡ length s₀))

@@ -1,11 +1,11 @@
--- `block_moves::move_ends` meets its contract: the second piece, read before the first was written, begins among the bytes of the first, or right after them.
+-- `blocks::moves::move_ends` meets its contract: the second piece, read before the first was written, begins among the bytes of the first, or right after them.
 -- Assumes nothing.
 use Prim.Native.Nat.{_+_, _-_}
 use native.Mathlib.Omega.{arith}
 use lib.ListN.{replicate}
 use Rattle.blocks.proofs.Pieces.{held, copied-more}
-use Rattle.block_moves.proofs.move_ends.Statement.{statement}
-use Rattle.block_moves.proofs.move_ends.Tie as tie
+use Rattle.blocks.proofs.moves.move_ends.Statement.{statement}
+use Rattle.blocks.proofs.moves.move_ends.Tie as tie
 
 returns : tie.Need-returns
 returns c =

@@ -1,9 +1,9 @@
--- `block_moves::move_short` meets its contract: so does each call of its width, and no byte is none.
+-- `blocks::moves::move_short` meets its contract: so does each call of its width, and no byte is none.
 -- Assumes nothing.
 use native.Mathlib.Omega.{arith}
 use Rattle.blocks.proofs.Pieces.{copied-none}
-use Rattle.block_moves.proofs.move_short.Statement.{statement}
-use Rattle.block_moves.proofs.move_short.Tie as tie
+use Rattle.blocks.proofs.moves.move_short.Statement.{statement}
+use Rattle.blocks.proofs.moves.move_short.Tie as tie
 
 returns-8 : tie.Need-returns-8
 returns-8 c =

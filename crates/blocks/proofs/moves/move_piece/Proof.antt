@@ -1,10 +1,10 @@
--- `block_moves::move_piece` meets its contract: what is written from the buffer is what was read into it.
+-- `blocks::moves::move_piece` meets its contract: what is written from the buffer is what was read into it.
 -- Assumes nothing.
 use native.Mathlib.Omega.{arith}
 use lib.ListN.{replicate}
 use Rattle.blocks.proofs.Pieces.{held}
-use Rattle.block_moves.proofs.move_piece.Statement.{statement}
-use Rattle.block_moves.proofs.move_piece.Tie as tie
+use Rattle.blocks.proofs.moves.move_piece.Statement.{statement}
+use Rattle.blocks.proofs.moves.move_piece.Tie as tie
 
 returns : tie.Need-returns
 returns c =

@@ -1,10 +1,11 @@
-// Blocks of bytes moved within one buffer, in pieces that are read whole before any of them is written (crate blocks). Each contract is one
+// Blocks of bytes moved within one buffer, in pieces that are read whole before any of them is written. Each contract is one
 // equation on the whole buffer. A piece has at most 2,048 bytes: glibc moves more than 2,112 by a string instruction on some processors, which is slow
 // where the two places overlap.
 ghost use mathlib.Core.Path.{_≡_};
 ghost use Prim.Native.Nat.{_+_, _≤_};
 ghost use lib.ListN.{length};
 ghost use Rattle.blocks.specs.Blocks.{moved};
+use crate::copy_bytes;
 
 // Moves a piece of k bytes, either way.
 fn move_piece(s: &mut [u8], from: usize, to: usize, k: usize)
@@ -12,8 +13,8 @@ fn move_piece(s: &mut [u8], from: usize, to: usize, k: usize)
     ensures { λ _. ⌜ now (s .exit) ≡ moved (now (s .entry)) from to k ⌝ }
 {
     let mut piece = [0u8; 2048];
-    blocks::copy_bytes(&mut piece, 0, s, from, k);
-    blocks::copy_bytes(s, to, &piece, 0, k);
+    copy_bytes(&mut piece, 0, s, from, k);
+    copy_bytes(s, to, &piece, 0, k);
 }
 
 // Moves n bytes as two pieces of k, the first and the last, either way: the last is read before the first is written.
@@ -23,9 +24,9 @@ fn move_ends(s: &mut [u8], from: usize, to: usize, n: usize, k: usize)
 {
     let end = n - k;
     let mut last = [0u8; 64];
-    blocks::copy_bytes(&mut last, 0, s, from + end, k);
+    copy_bytes(&mut last, 0, s, from + end, k);
     move_piece(s, from, to, k);
-    blocks::copy_bytes(s, to + end, &last, 0, k);
+    copy_bytes(s, to + end, &last, 0, k);
 }
 
 // Moves up to 128 bytes, either way.
