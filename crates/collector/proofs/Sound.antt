@@ -34,7 +34,7 @@ pub record Timed (toc count each : ℕ) : Type 0 where
 
 -- which are the 120 ms of the RFC's durations
 module _ (toc count each : ℕ) (b : toc < 256) (e : each ≡ samples 8000 (configuration toc)) where
-  pub time-is : leb (count * each) 960 ≡ leb (count * duration (configuration toc)) 1200
+  time-is : leb (count * each) 960 ≡ leb (count * duration (configuration toc)) 1200
   time-is = rw e (lasts-at 8000 refl count (configuration toc) (omega arith))
 
 pub timed-lasts : {toc count each : ℕ} → toc < 256 → 1 ≤ count → Timed toc count each → Lasts (upperSix toc) count

@@ -1,22 +1,17 @@
 -- What the inner functions answer, where a collector's lengths and numbers are lent beside the rest of it.
-use Prim.Native.Nat.{ℕ, _*_, _%_}
+use Prim.Native.Nat.{ℕ, _*_}
 use mathlib.Core.List.{List, []}
 use mathlib.Core.Bool.{Bool, true, false, cond, _&&_}
 use lib.Dec.{leb, eqb}
 use Rattle.opus_toc.specs.Toc.{configuration, samples}
-use Rattle.opus_format.specs.Frames.{total, longest}
+use Rattle.opus_format.specs.Frames.{total}
 use Rattle.packet_numbers.specs.Numbers.{keptWell}
 use Rattle.collector.specs.declared.OpusRepacketizer.{OpusRepacketizer}
-use Rattle.collector.specs.declared.Measured.{Measured}
 use Rattle.collector.specs.declared.Head.{Head}
 use Rattle.collector.specs.declared.Checked.{Checked}
 use Rattle.collector.specs.declared.Front.{Front}
 use Rattle.collector.specs.declared.Front.the-variants.{Known, Held}
 use Rattle.collector.specs.Collector.{heldLengths, sound}
-
--- one pass over lengths
-abbrev pub measured : List ℕ → Measured
-measured ns = record { longest = longest ns; total = total ns % 65536 }
 
 -- a collector without its lengths and numbers
 abbrev pub headOf : OpusRepacketizer → Head

@@ -1,10 +1,11 @@
 // The collector: what it is, and whether it is sound (repacketizer.rs); by value, and as a head with its lengths and numbers lent.
 ghost use mathlib.Core.Path.{_≡_};
-ghost use Prim.Native.Nat.{_≤_, max};
+ghost use Prim.Native.Nat.{_%_, _≤_};
 ghost use lib.ListN.{length};
 ghost use Rattle.opus_defines.specs.Numbers.{numberOf};
+ghost use Rattle.opus_format.specs.Frames.{total};
 ghost use Rattle.collector.specs.Collector.{empty, sound, nbFramesHeld};
-ghost use Rattle.collector.specs.Parts.{measured, headOf, collectorOf, unsoundly, headFits, frontOf, checkedHeld, checked};
+ghost use Rattle.collector.specs.Parts.{headOf, collectorOf, unsoundly, headFits, frontOf, checkedHeld, checked};
 use opus_defines::Answer;
 use opus_defines::Refusal;
 use opus_defines::wide;
@@ -37,34 +38,18 @@ pub fn opus_repacketizer_init() -> OpusRepacketizer
     }
 }
 
-// What one pass over lengths finds: the longest, and the sum modulo 65,536, which is the sum of lengths that a collector can hold.
-pub struct Measured {
-    pub longest: u16,
-    pub total: u16,
-}
-
-fn larger(a: u16, b: u16) -> u16
-    ensures { λ r. ⌜ r ≡ max a b ⌝ }
+// The sum of lengths modulo 65,536, which is the sum of those that a collector can hold: it is counted in 16 bits, so that eight lengths or more are taken
+// at a time.
+pub fn total_16(ns: &[u16]) -> u16
+    ensures { λ r. ⌜ r ≡ total (now (ns .entry)) % 65536 ⌝ }
 {
-    if a < b { b } else { a }
-}
-
-// No test leaves the loop and all is counted in 16 bits, so that eight lengths or more are taken at a time.
-pub fn measure(ns: &[u16]) -> Measured
-    ensures { λ r. ⌜ r ≡ measured (now (ns .entry)) ⌝ }
-{
-    let mut most: u16 = 0;
     let mut sum: u16 = 0;
     let mut i: usize = 0;
     while i < ns.len() {
-        most = larger(most, ns[i]);
         sum = std::num::wrapping_add_u16(sum, ns[i]);
         i += 1;
     }
-    Measured {
-        longest: most,
-        total: sum,
-    }
+    sum
 }
 
 // A collector without its lengths and numbers. They are lent beside it, since each struct that is passed would copy them.

@@ -42,7 +42,7 @@ consecutive-few begin n [] c = omega (arith, c)
 consecutive-few begin n (o ∷ os) c = omega (arith, c .1 .1 .0, consecutive-few (natural (o .end)) n os (c .1 .1 .1))
 
 -- ---- the packets
-abbrev pub packets : ℕ → List (List ℕ) → ℕ → List Order → List (List ℕ)
+abbrev packets : ℕ → List (List ℕ) → ℕ → List Order → List (List ℕ)
 packets six frames begin [] = []
 packets six frames begin (o ∷ os) = compact false six (range begin (natural (o .end)) frames) ∷ packets six frames (natural (o .end)) os
 
@@ -87,7 +87,7 @@ module _ (six : ℕ) (frames : List (List ℕ)) (room : ℕ) where
       ∙ rw (append-assoc ls (length p ∷ []) (lengths ps), append-assoc bs p (joined ps)))
 
   -- and without
-  pub each-short : (os : List Order) (begin : ℕ) → Consecutive begin (length frames) os → (ls bs : List ℕ) → length bs ≤ room
+  each-short : (os : List Order) (begin : ℕ) → Consecutive begin (length frames) os → (ls bs : List ℕ) → length bs ≤ room
       → room < length bs + cutBytes six frames begin os
       → (p : ℕ) × (each six frames room os (cutInto ls bs) ≡ refusedAt p BufferTooSmall)
   each-short [] begin c ls bs k h = absurd (omega arith)

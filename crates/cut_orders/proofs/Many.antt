@@ -67,7 +67,7 @@ module _ (rp : OpusRepacketizer) (store : List ℕ) (orders : List Order) (dst :
 
 -- ---- how far the orders get
 -- n orders, of which so many are done before: a refusal is at the position of one of the others; else each has its length, and these sum to the bytes
-abbrev pub Went : ℕ → ℕ → Cutting → Type 0
+abbrev Went : ℕ → ℕ → Cutting → Type 0
 Went before n (refusedAt p e) = (before < p) × (p ≤ before + n)
 Went before n (cutInto ns bs) = (length ns ≡ before + n) × (total ns ≡ length bs)
 

@@ -3,7 +3,7 @@
 --     Taken, taken                   an order that is not refused has a range of the frames held, and room
 --     passed-fits, .., put-part      what is put into that part is what the single output leaves of the whole
 -- Assumes nothing.
-use Prim.Native.Nat.{ℕ, _+_, _-_, _^_, _≤_, _<_}
+use Prim.Native.Nat.{ℕ, _-_, _^_, _≤_, _<_}
 use native.Mathlib.Omega.{arith}
 use mathlib.Core.Path.{_≡_, refl, sym, ap, _∙_, subst}
 use mathlib.Core.List.{List, _++_}

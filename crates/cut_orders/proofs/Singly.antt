@@ -47,7 +47,7 @@ module _ (rp : OpusRepacketizer) (store : List ℕ) (o : Order) (os : List Order
 
 -- ---- the orders one by one
 -- what they come to, ls lengths being there before them, against what single calls answer and leave of the destination
-abbrev pub Agrees : List ℕ → List ℕ → Cutting → Singles → Type 0
+abbrev Agrees : List ℕ → List ℕ → Cutting → Singles → Type 0
 Agrees dst ls (refusedAt p e) s = s .report ≡ orderReport (refusedAt p e)
 Agrees dst ls (cutInto ns bs) s = (s .report ≡ orderReport (cutInto ns bs)) × ((ns ≡ ls ++ s .lengths) × (s .bytes ≡ sets dst 0 bs))
 

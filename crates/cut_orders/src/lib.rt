@@ -2,7 +2,7 @@
 ghost use mathlib.Core.Path.{_≡_};
 ghost use mathlib.Core.List.{List, _++_};
 ghost use mathlib.Core.Bool.{true, false};
-ghost use Prim.Native.Nat.{ℕ, _+_, _-_, _<_, _≤_};
+ghost use Prim.Native.Nat.{ℕ, _-_, _<_, _≤_};
 ghost use lib.IntN.{pos};
 ghost use lib.ListN.{length, take, drop};
 ghost use lib.Seq.{sets};
@@ -10,7 +10,6 @@ ghost use Rattle.opus_defines.specs.Numbers.{numberOf};
 ghost use Rattle.opus_defines.specs.Outcome.{refusal, leaves};
 ghost use Rattle.opus_defines.specs.declared.Refusal.{Refusal};
 ghost use Rattle.opus_toc.specs.Toc.{upperSix};
-ghost use Rattle.opus_format.specs.Frames.{cut, total};
 ghost use Rattle.opus_header.specs.Compact.{compact};
 ghost use Rattle.collector.specs.Collector.{held, leastStore, framed};
 ghost use Rattle.collector.specs.Parts.{collectorOf, bare};
@@ -167,8 +166,8 @@ fn put_range(h: Head, len: &[u16], store: &[u8], b: usize, e: usize, data: &mut 
     ensures bytes { λ _. ⌜ now («data» .exit)
         ≡ sets (now («data» .entry)) 0 (compact false (upperSix (h .toc)) (range b e (held (bare h (now (len .entry))) (now (store .entry))))) ⌝ }
 {
-    let before = collector::measure(&len[..b]);
-    opus_header::put_compact(data, h.toc, &len[b..e], store, wide(before.total), false)
+    let before = collector::total_16(&len[..b]);
+    opus_header::put_compact(data, h.toc, &len[b..e], store, wide(before), false)
 }
 
 // The single output of an order that the first pass has not refused, into what the destination has left behind its first `at` bytes; answers its length.

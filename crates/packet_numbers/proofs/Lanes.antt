@@ -175,11 +175,11 @@ lane-short u mask x h e =
     let both = sym (and-block 16 u mask x 0xFC00 h (omega arith)) ∙ e in (length-small x h (omega (arith, both)), omega (arith, both))
 
 -- four lengths in a word, none of them long
-pub record Short (x y z v : ℕ) : Type 0 where
-  pub x-short : x < 1024
-  pub y-short : y < 1024
-  pub z-short : z < 1024
-  pub v-short : v < 1024
+record Short (x y z v : ℕ) : Type 0 where
+  x-short : x < 1024
+  y-short : y < 1024
+  z-short : z < 1024
+  v-short : v < 1024
 
 lanes-short : (w x y z v : ℕ) → x < 65536 → y < 65536 → z < 65536 → v < 65536 → w ≡ lanes x y z v → bitAnd w 0xFC00FC00FC00FC00 ≡ 0
     → Short x y z v

@@ -121,7 +121,7 @@ apart-lasting rp toc n l =
     by-test (goesWith rp toc n) (λ g. rw g)
     (λ g. by-test (eqb (upperSix toc) (upperSix (rp .toc))) (λ s. rw (g, s, l)) (λ s. rw (g, s)))
 
-pub stays-read : (sd : Bool) (rp : OpusRepacketizer) (p : List ℕ) (toc : ℕ) (ns : List ℕ) (first end : ℕ) → Bytes p
+stays-read : (sd : Bool) (rp : OpusRepacketizer) (p : List ℕ) (toc : ℕ) (ns : List ℕ) (first end : ℕ) → Bytes p
     → read sd p ≡ accepted toc ns first end → staysOut rp p ≡ cond (goesWith rp toc (length ns)) false true
 unfolding staysOut
 stays-read sd rp [] toc ns first end bytes r = absurd (let f = facts sd [] toc ns first end bytes r in omega (arith, f .headed, f .block, f .within))

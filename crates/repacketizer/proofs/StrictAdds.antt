@@ -183,7 +183,7 @@ by-no-dirt false sd rp p store d = by-ordinary sd rp p store
 by-no-dirt true sd rp p store d = strict-same sd rp p store d ∙ by-ordinary sd rp p store
 
 -- a packet without a count byte has no padding, so that there is nothing to ask
-pub by-uncounted : (strict sd : Bool) (rp : OpusRepacketizer) (p store : List ℕ) → (code (getD p 0 0) ≡ 3 → ⊥)
+by-uncounted : (strict sd : Bool) (rp : OpusRepacketizer) (p store : List ℕ) → (code (getD p 0 0) ≡ 3 → ⊥)
     → addPacketBy strict sd rp p store ≡ addPacket sd rp p store
 by-uncounted strict sd rp p store n = by-no-dirt strict sd rp p store (go strict)
   where

@@ -178,8 +178,8 @@ fn add_block(
     if !goes_with(h, toc, ns.len() as u16) {
         return refused_add(Refusal::InvalidPacket, h);
     }
-    let m = collector::measure(ns);
-    blocks::copy_into(store, at, data, first, wide(m.total));
+    let sum = collector::total_16(ns);
+    blocks::copy_into(store, at, data, first, wide(sum));
     let place = wide(h.nb_frames);
     put_lengths(len, place, ns);
     packet_numbers::put_numbers(packet, place, place + ns.len());

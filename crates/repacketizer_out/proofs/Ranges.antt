@@ -7,7 +7,7 @@
 use Prim.Native.Nat.{ℕ, zero, suc, _+_, _*_, _-_, _/_, _%_, _≤_, _<_}
 use native.Mathlib.Nat.{mul-le-mul}
 use native.Mathlib.Omega.{arith}
-use mathlib.Core.Path.{_≡_, refl, ap, _∙_}
+use mathlib.Core.Path.{_≡_, refl, _∙_}
 use mathlib.Core.List.{List, [], _∷_}
 use lib.ListN.{length, take, drop, length-take, length-drop}
 use lib.Seq.{take-take, drop-drop}
@@ -18,9 +18,7 @@ use Rattle.opus_format.specs.Format.{Lasts}
 use Rattle.opus_format.proofs.Frames.{lengths-cut}
 use Rattle.opus_format.proofs.Lengths.{longest-take}
 use Rattle.collector.specs.declared.OpusRepacketizer.{OpusRepacketizer}
-use Rattle.collector.specs.declared.Measured.{Measured}
 use Rattle.collector.specs.Collector.{held, heldLengths, leastStore}
-use Rattle.collector.specs.Parts.{measured}
 use Rattle.collector.proofs.Sound.{sound-framed}
 use Rattle.collector.proofs.Held.{Holding, holding}
 use Rattle.repacketizer.specs.Runs.{State, Ready}
@@ -77,7 +75,7 @@ drop-cut (suc n) (m ∷ ns) s = rw (drop-cut n ns (drop m s), drop-drop (total (
 range-cut : (b e : ℕ) (ns s : List ℕ) → range b e (cut ns s) ≡ cut (range b e ns) (drop (total (take b ns)) s)
 range-cut b e ns s = rw (drop-cut b ns s, take-cut (e - b) (drop b ns) (drop (total (take b ns)) s))
 
-pub length-cut : (ns s : List ℕ) → length (cut ns s) ≡ length ns
+length-cut : (ns s : List ℕ) → length (cut ns s) ≡ length ns
 length-cut [] s = refl
 length-cut (n ∷ ns) s = rw (length-cut ns (drop n s))
 
@@ -112,11 +110,9 @@ part-of rp h b e some within =
     }
 
 -- where it begins in the store, as the code counts it
-pub part-from : {rp : OpusRepacketizer} {b e : ℕ} → Part rp b e → (m : Measured) → m ≡ measured (take b (rp .len))
-    → {from : ℕ} → from ≡ m .total → from ≡ total (take b (rp .len))
-part-from {rp} {b} p m q f =
-    let sum : total (take b (rp .len)) % 65536 ≡ total (take b (rp .len)) = omega (arith, p .block) in
-    f ∙ (ap (λ (k : Measured). k .total) q ∙ sum)
+pub part-from : {rp : OpusRepacketizer} {b e : ℕ} → Part rp b e → {sum : ℕ} → sum ≡ total (take b (rp .len)) % 65536
+    → {from : ℕ} → from ≡ sum → from ≡ total (take b (rp .len))
+part-from p q f = f ∙ (q ∙ omega (arith, p .block))
 
 -- ---- the same of a collector with its store
 pub ready-holding : (s : State) → Ready s → Holding (s .rp)

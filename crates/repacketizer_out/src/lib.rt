@@ -4,7 +4,7 @@ pub mod by_number;
 ghost use mathlib.Core.Path.{_≡_};
 ghost use mathlib.Core.List.{_++_};
 ghost use mathlib.Core.Bool.{true, false};
-ghost use Prim.Native.Nat.{_+_, _-_, _<_, _≤_};
+ghost use Prim.Native.Nat.{_+_, _≤_};
 ghost use lib.IntN.{pos};
 ghost use lib.ListN.{length, drop};
 ghost use lib.Seq.{sets};
@@ -117,12 +117,12 @@ fn out_frames(
     if n < end {
         return Answer::Refused(Refusal::BadArg);
     }
-    let before = collector::measure(&len[..begin]);
+    let before = collector::total_16(&len[..begin]);
     put_frames(
         &len[begin..end],
         h.toc,
         store,
-        wide(before.total),
+        wide(before),
         data,
         self_delimited,
         pad,

@@ -24,11 +24,11 @@ part c =
     let holds : Holding (bare (a .h) (a .len .now)) = holding (bare (a .h) (a .len .now)) (byte c) (c .pre .0 .0) (c .pre .0 .1) in
     part-of (bare (a .h) (a .len .now)) holds (a .b) (a .e) (c .pre .1 .0 .0) (c .pre .1 .0 .1)
 
-abbrev entry : tie.After-measure → tie.Start
+abbrev entry : tie.After-total-16 → tie.Start
 entry c = c .before .before .before .before .before
 
-slice-aggregate-measure : tie.Need-slice-aggregate-measure
-slice-aggregate-measure c =
+slice-aggregate-total-16 : tie.Need-slice-aggregate-total-16
+slice-aggregate-total-16 c =
     let s = c .before .before .before .before in
     sym (length-take-le (s .args .b) (s .args .len .now) (omega (arith, part s .inside, s .pre .1 .0 .0)))
 
@@ -39,7 +39,7 @@ part-put-compact-end c = part (entry (c .before)) .inside
 from : (c : tie.After-wide) → let a = entry (c .before .before .before) .args in c .wide .result ≡ total (take (a .b) (a .len .now))
 from c =
     let m = c .before .before .before in
-    part-from (part (entry m)) (m .measure .result) (m .measure .ensures) (c .wide .ensures .0)
+    part-from (part (entry m)) (m .total-16 .ensures) (c .wide .ensures .0)
 
 put-compact-requires : tie.Need-put-compact-requires
 put-compact-requires c κs =
@@ -62,7 +62,7 @@ pub put-range-spec : {M : Type 1} → statement M
 put-range-spec =
     tie.close
     (tie.spec
-    slice-aggregate-measure
+    slice-aggregate-total-16
     (λ c κs. search needs)
     (λ c. search needs)
     (λ c. search needs)

@@ -1,12 +1,11 @@
 -- `repacketizer::add_block` meets its contract: frames that go with those held are copied behind them.
 -- Assumes nothing.
 use Prim.Native.Nat.{_+_}
-use mathlib.Core.Path.{_≡_, ap, _∙_}
+use mathlib.Core.Path.{_≡_, _∙_}
 use native.Mathlib.Omega.{arith}
 use borrow.Author.Needs.{needs}
 use lib.ListN.{length}
 use Rattle.opus_format.specs.Frames.{total}
-use Rattle.collector.specs.declared.Measured.{Measured}
 use Rattle.collector.proofs.Counts.{sum-small}
 use Rattle.repacketizer.proofs.Lengths.{numbers-kept}
 use Rattle.repacketizer.proofs.Adds.{Joins, joins, joins-numbers, joins-block, head-few, block-stays}
@@ -43,10 +42,9 @@ sum : (c : tie.After-wide)
     let a = entry (i .before) .args in
     c .wide .result ≡ total (a .ns .now)
 sum c =
-    let m = c .before .before in
-    let i = m .before in
-    let s = entry (i .before) in
-    c .wide .ensures .0 ∙ (ap (λ (m : Measured). m .total) (m .measure .ensures) ∙ sum-small (s .args .ns .now) (s .pre .1 .1) (s .pre .1 .2))
+    let t = c .before .before in
+    let s = entry (t .before .before) in
+    c .wide .ensures .0 ∙ (t .total-16 .ensures ∙ sum-small (s .args .ns .now) (s .pre .1 .1) (s .pre .1 .2))
 
 copy-into-requires : tie.Need-copy-into-requires
 copy-into-requires c κs =

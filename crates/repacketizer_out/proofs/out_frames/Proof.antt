@@ -52,8 +52,8 @@ part c =
     let s = entry (c .before .before) in
     part-of (bare (s .args .h) (s .args .len .now)) (holds s) (s .args .begin) (s .args .end) (c .before .if1 .left) (within c)
 
-slice-aggregate-measure : tie.Need-slice-aggregate-measure
-slice-aggregate-measure c =
+slice-aggregate-total-16 : tie.Need-slice-aggregate-total-16
+slice-aggregate-total-16 c =
     let i = c .before in
     let a = entry (i .before .before) .args in
     sym (length-take-le (a .begin) (a .len .now) (omega (arith, part i .inside)))
@@ -68,7 +68,7 @@ from : (c : tie.After-wide2)
     c .wide2 .result ≡ total (take (a .begin) (a .len .now))
 from c =
     let m = c .before .before in
-    part-from (part (m .before .before)) (m .measure .result) (m .measure .ensures) (c .wide2 .ensures .0)
+    part-from (part (m .before .before)) (m .total-16 .ensures) (c .wide2 .ensures .0)
 
 put-frames-requires : tie.Need-put-frames-requires
 put-frames-requires c κs =
@@ -97,7 +97,7 @@ out-frames-spec =
     (λ c κs. search needs)
     returns
     returns-2
-    slice-aggregate-measure
+    slice-aggregate-total-16
     (λ c κs. search needs)
     (λ c. search needs)
     (λ c. search needs)
