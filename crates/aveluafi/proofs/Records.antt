@@ -22,6 +22,7 @@ use lib.ListN.{length, getD, set, replicate, length-append, length-replicate}
 use mir.Syntax.{w32}
 use mir.Val.{toZ, ofZ, SFits}
 use mir.ValLaws.{toZ-ofZ}
+use borrow.Author.Tests.{ltb-true, ltb-false}
 use Rattle.laws.specs.Bytes.{Bytes}
 use Rattle.laws.proofs.Never.{never, by-test}
 use Rattle.opus_defines.specs.Rules.{ruleRefusal}
@@ -54,8 +55,9 @@ use Rattle.aveluafi.specs.Records.{sizeRecord, packetRecord, wholeRecord
 
 -- ---- a packet that was read, with its lengths in the array l
 few : (sd : Bool) (p : List ℕ) → Bytes p → parsed sd p .count ≤ 48
-unfolding parsed
-few sd p bytes = by-test (ltb 65535 (length p)) (λ t. rw t (omega arith)) (λ t. rw t (go (read sd p) refl))
+few sd p bytes =
+    by-test (ltb 65535 (length p)) (λ t. rw (← parse-long sd p (ltb-true 65535 (length p) t)) (omega arith))
+    (λ t. rw (← parse-read sd p (ltb-false 65535 (length p) t)) (go (read sd p) refl))
   where
     go : (x : Reading) → read sd p ≡ x → packetOf (read sd p) .count ≤ 48
     go (refused rule place) q = rw q (omega arith)
@@ -63,11 +65,14 @@ few sd p bytes = by-test (ltb 65535 (length p)) (λ t. rw t (omega arith)) (λ t
 
 -- beside a refusal the answer is zeros
 refused-zeros : (sd : Bool) (p : List ℕ) (e : Refusal) → parsed sd p .verdict ≡ Refused e → parsed sd p ≡ noPacket e
-unfolding parsed
 refused-zeros sd p e v =
     by-test (ltb 65535 (length p))
-    (λ t. let w : Refused BadArg ≡ Refused e = rw t at v in rw t (ap noPacket (same w)))
-    (λ t. let w : packetOf (read sd p) .verdict ≡ Refused e = rw t at v in rw t (go (read sd p) w))
+    (λ t. let long = parse-long sd p (ltb-true 65535 (length p) t) in
+    let w : Refused BadArg ≡ Refused e = ap (λ (x : Packet). x .verdict) long ∙ v in
+    sym long ∙ ap noPacket (same w))
+    (λ t. let short = parse-read sd p (ltb-false 65535 (length p) t) in
+    let w : packetOf (read sd p) .verdict ≡ Refused e = ap (λ (x : Packet). x .verdict) short ∙ v in
+    sym short ∙ go (read sd p) w)
   where
     same : {a : Refusal} → Refused a ≡ Refused e → a ≡ e
     same w = cc

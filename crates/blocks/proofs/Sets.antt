@@ -7,8 +7,8 @@ use Prim.Native.Nat.{ℕ, zero, suc, _+_, _-_, _≤_, _<_}
 use native.Mathlib.Nat.{add-zero, zero-add, add-suc, suc-add, not-suc-le-zero, sub-zero, zero-sub, suc-sub-suc}
 use native.Mathlib.Numerals.{add-one}
 use native.Mathlib.Omega.{arith}
-use lib.ListN.{length, take, drop, getD, set, replicate, length-take, length-drop, length-set, length-replicate, replicate-append-replicate}
-use lib.Seq.{sets, sets-eq, take-append-seam, take-suc, take-add, take-nil, drop-drop, drop-set-lt}
+use lib.ListN.{length, take, drop, getD, set, replicate, length-take, length-drop, length-set, length-replicate, replicate-append-replicate, length-append}
+use lib.Seq.{sets, sets-eq, take-append-seam, take-suc, take-add, take-nil, drop-drop, drop-set-lt, take-at, length-take-le}
 use lib.Seq.{getD-set-same, getD-set-other, getD-drop, set-comm, set-set}
 use Rattle.blocks.specs.Blocks.{part, filled, copied}
 
@@ -16,6 +16,12 @@ use Rattle.blocks.specs.Blocks.{part, filled, copied}
 pub sets-append : (l : List ℕ) (at : ℕ) (us vs : List ℕ) → sets l at (us ++ vs) ≡ sets (sets l at us) (at + length us) vs
 sets-append l at [] vs = rw add-zero
 sets-append l at (u ∷ us) vs = rw (add-suc, ← suc-add, sets-append (set l at u) (suc at) us vs)
+
+-- a run behind the first n is read back with them
+pub take-sets-at : (l : List ℕ) (n : ℕ) (vs : List ℕ) → n + length vs ≤ length l → take (n + length vs) (sets l n vs) ≡ take n l ++ vs
+take-sets-at l n vs h =
+    let e : length (take n l ++ vs) ≡ n + length vs = length-append (take n l) vs ∙ ap (λ (k : ℕ). k + length vs) (length-take-le n l (omega arith)) in
+    rw (sets-eq vs l n h) (take-at (take n l ++ vs) (drop (n + length vs) l) (n + length vs) e)
 
 -- the same from the front of a buffer, as the code has it
 pub put-behind : (l us vs : List ℕ) {d : List ℕ} {at : ℕ} → d ≡ sets l 0 us → at ≡ length us → sets d at vs ≡ sets l 0 (us ++ vs)

@@ -14,6 +14,7 @@ use Rattle.opus_toc.specs.Toc.{upperSix}
 use Rattle.opus_format.specs.Frames.{cut}
 use Rattle.opus_format.specs.Reading.{accepted, read, framesOf}
 use Rattle.opus_format.proofs.Sound.{read-spelled}
+use Rattle.opus_format.proofs.Facts.{frames-read}
 use Rattle.blocks.proofs.Sets.{take-sets}
 use Rattle.opus_header.specs.Compact.{compact}
 use Rattle.packet_pad.specs.Unpad.{unpadded}
@@ -31,7 +32,6 @@ use Rattle.repacketizer_out.proofs.NumberPromises.{output-of-a-packet}
 unpadded-front : (p : List ℕ) → Bytes p → length p ≤ 65535 → (toc : ℕ) (ns : List ℕ) (first end : ℕ)
     → read false p ≡ accepted toc ns first end
     → front (unpadded p (pos (length p))) ≡ compact false (upperSix (getD p 0 0)) (framesOf p (read false p))
-unfolding framesOf
 unpadded-front p b short toc ns first end r =
     let whole = take-all (length p) p (omega arith) in
     let q : read false (take (length p) p) ≡ accepted toc ns first end = rw whole r in
@@ -39,7 +39,7 @@ unpadded-front p b short toc ns first end r =
     let frames = cut ns (drop first (take (length p) p)) in
     let is = unpad-is-compact p b (length p) (omega arith) short toc ns first end q in
     let fits = unpad-never-grows p b (length p) (omega arith) short toc ns first end q .1 in
-    ap front is ∙ (take-sets p (compact false (upperSix toc) frames) fits ∙ rw (r, whole, toc-is))
+    ap front is ∙ (take-sets p (compact false (upperSix toc) frames) fits ∙ rw (frames-read false p toc ns first end r, whole, toc-is))
 
 -- an output of frames that unpadding has left in front of a buffer
 as-unpadded : (dst p front : List ℕ) (sd : Bool) (six : ℕ) → sd ≡ false → front ≡ compact false six (framesOf p (read false p))

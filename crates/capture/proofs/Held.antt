@@ -1,4 +1,5 @@
 -- What a capture holds, its records and the bytes that belong to none, by what stands at its front: nothing, a record, or a byte that is passed over.
+--     records-are, passed-are                            both by the answers from the front on
 --     records-none, records-one, records-end             the records among answers
 --     passed-one, passed-end                             what answers pass over
 --     records-shifted, passed-shifted, entries-shifted   the same of answers behind some bytes
@@ -30,6 +31,16 @@ use Rattle.capture.proofs.Files.{file-none, file-one}
 use Rattle.capture.proofs.Answers.{all-bytes, next-within}
 use Rattle.capture.proofs.Steps.{readings-end, readings-on}
 use Rattle.capture.proofs.Shifted.{shifted, readings-shifted, entry-shifted}
+
+-- ---- by the answers from the front on
+module _ (s : List ℕ) where
+  pub records-are : recordsOf s ≡ entries s (recordsIn (readings s 0))
+  unfolding recordsOf
+  records-are = refl
+
+  pub passed-are : passedOf s ≡ passedIn (readings s 0)
+  unfolding passedOf
+  passed-are = refl
 
 -- ---- the records among answers, and what answers pass over
 module _ (a : NextRecord) (more : List NextRecord) where

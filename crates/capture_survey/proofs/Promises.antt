@@ -10,13 +10,13 @@ use lib.ListN.{length, length-map}
 use Rattle.laws.specs.Bytes.{Bytes}
 use Rattle.capture.specs.Records.{Entry}
 use Rattle.capture.specs.Reading.{readings, recordsIn, recordsOf, passedOf}
-use Rattle.capture.proofs.Held.{all-counted}
+use Rattle.capture.proofs.Held.{all-counted, records-are}
 use Rattle.capture_window.specs.Parts.{joinedUp, parts}
 use Rattle.capture_window.proofs.Promises.{parts-read-as-the-file}
 use Rattle.packet_judge.specs.Judging.{judged}
 use Rattle.packet_judge.specs.Tallies.{tallyOf, sumOf}
 use Rattle.compaction.specs.Share.{night, share}
-use Rattle.compaction.proofs.Faithful.{stand-all}
+use Rattle.compaction.proofs.Faithful.{records-stand}
 use Rattle.compaction.proofs.Whole.{whole}
 use Rattle.compaction.proofs.Joining.{one-share, all-fit}
 use Rattle.capture_survey.specs.Survey.{surveyOf, surveyOfAll, bytesIn}
@@ -43,14 +43,13 @@ module _ (s : List ℕ) where
   -- ---- 3. The verdicts are those of M-110's judge on the packet of each record, and each record has one.
   pub each-record-judged : (surveyOf s .verdicts ≡ tallyOf (map (λ (e : Entry). judged false (e .packet)) es))
       × (Bytes s → sumOf (surveyOf s .verdicts) ≡ surveyOf s .records)
-  unfolding recordsOf
   each-record-judged =
       let is : surveyOf s .verdicts ≡ tallyOf (map verdictOn es) = rw (by-records s, ← entries-verdicts es) (simp add-zero) in (
         is,
         λ bytes.
-            let ds = recordsIn (readings s 0) in
             let n = length-map es verdictOn in
-            omega (arith, ap sumOf is, verdicts-all s bytes ds (stand-all s bytes 0 (omega arith)), n, every-byte-once .0),
+            let all = rw (← records-are s) at (verdicts-all s bytes (recordsIn (readings s 0)) (records-stand s bytes)) in
+            omega (arith, ap sumOf is, all, n, every-byte-once .0),
       )
 
   -- ---- 4. What it calls reclaimable is what compacting the capture reclaims (document 02, M-103), with any budget that holds it.

@@ -24,7 +24,7 @@ use Rattle.capture.proofs.Files.{file-none, file-one}
 use Rattle.capture.proofs.Written.{written-length}
 use Rattle.capture.proofs.Packets.{packet-bytes}
 use Rattle.capture.proofs.Steps.{reading-induction}
-use Rattle.capture.proofs.Held.{records-none, records-one, records-end, passed-one, passed-end}
+use Rattle.capture.proofs.Held.{records-none, records-one, records-end, passed-one, passed-end, records-are, passed-are}
 use Rattle.capture_window.specs.Parts.{recordsOfAll, passedOfAll}
 use Rattle.packet_judge.specs.Judging.{judged}
 use Rattle.packet_judge.specs.Tallies.{tallyOf, none, tallied, plus, sumOf}
@@ -73,8 +73,8 @@ by-answers s (a ∷ r) =
     (record-anywhere (a .passed) (passedIn r) (packetAt s (a .place)) (ofEntries (entries s (recordsIn r)))))
 
 pub by-records : (s : List ℕ) → surveyOf s ≡ together (ofEntries (recordsOf s)) (ofPassed (passedOf s))
-unfolding surveyOf recordsOf passedOf
-by-records s = by-answers s (readings s 0)
+unfolding surveyOf
+by-records s = rw (records-are s, passed-are s) (by-answers s (readings s 0))
 
 -- ---- of parts
 swap : (t u : Survey) (n m : ℕ) → together (together t (ofPassed n)) (together u (ofPassed m)) ≡ together (together t u) (ofPassed (n + m))

@@ -22,6 +22,7 @@ use Rattle.opus_toc.proofs.Samples.{lasts-at}
 use Rattle.opus_format.specs.Frames.{longest}
 use Rattle.opus_format.specs.Format.{Lasts}
 use Rattle.packet_numbers.specs.Numbers.{numbered, keptWell}
+use Rattle.packet_numbers.proofs.Growing.{none-numbered}
 use Rattle.collector.specs.declared.OpusRepacketizer.{OpusRepacketizer}
 use Rattle.collector.specs.declared.Head.{Head}
 use Rattle.collector.specs.Collector.{heldLengths, heldNumbers, framed, sound, nbFramesHeld}
@@ -102,8 +103,7 @@ module _ (rp : OpusRepacketizer) where
   both-sound f n = rw (f, n)
 
   pub none-sound : rp .«nb_frames» ≡ 0 → sound rp ≡ true
-  unfolding numbered
-  none-sound e = both-sound (none-framed rp e) (rw e)
+  none-sound e = both-sound (none-framed rp e) (rw (e, none-numbered))
 
   -- one that is not empty, by the test of its head
   module _ (z : rp .«nb_frames» ≡ 0 → ⊥) where

@@ -13,7 +13,6 @@ use Rattle.laws.specs.Bytes.{Bytes}
 use Rattle.capture.specs.Records.{Entry, written, fileOf}
 use Rattle.capture.specs.Finding.{packetLength}
 use Rattle.capture.specs.Reading.{readings, answersFor, recordsIn, recordsOf, passedOf}
-use Rattle.capture.specs.declared.NextRecord.{NextRecord}
 use Rattle.capture.proofs.Laws.{length-fits}
 use Rattle.capture.proofs.Files.{file-none, file-one}
 use Rattle.capture.proofs.Written.{entryIn}
@@ -24,8 +23,8 @@ use Rattle.capture_window.proofs.Places.{by-order}
 use Rattle.compaction.specs.Account.{rewritten}
 use Rattle.compaction.specs.Lossless.{StandAll, Faithful}
 use Rattle.compaction.specs.Shortest.{Shortest}
-use Rattle.compaction.proofs.Faithful.{stand-all, hold-all, all-same, entries-back}
-use Rattle.compaction.proofs.Least.{all-least}
+use Rattle.compaction.proofs.Faithful.{records-back, records-stand, records-hold, records-same}
+use Rattle.compaction.proofs.Least.{records-least}
 use Rattle.compact.specs.Stream.{shareOf, writtenOf}
 use Rattle.compact.proofs.Fronts.{share-nil, written-nil, sizeIn, share-taken, written-taken, share-full, share-byte, written-byte}
 
@@ -93,24 +92,14 @@ by-the-rule (e ∷ es) = file-one (rewritten e) (map rewritten es) ∙ ap (λ (l
 
 -- ---- nothing is lost
 module _ (s : List ℕ) (bytes : Bytes s) where
-  abbrev ds : List NextRecord
-  ds = recordsIn (readings s 0)
-
-  stand : StandAll s ds
-  stand = stand-all s bytes 0 (omega arith)
-
   -- the records of what is written
   back : recordsOf (compacted (recordsOf s)) ≡ map rewritten (recordsOf s)
-  unfolding recordsOf
-  back = entries-back (map rewritten (recordsOf s)) (hold-all s bytes ds stand)
+  back = records-back (map rewritten (recordsOf s)) (records-hold s bytes)
 
   pub loses-nothing : let out = compacted (recordsOf s) in
-      StandAll s ds × (readings out 0 ≡ answersFor 0 (recordsOf out)) × Faithful (recordsOf s) (recordsOf out)
-  unfolding recordsOf
+      StandAll s (recordsIn (readings s 0)) × (readings out 0 ≡ answersFor 0 (recordsOf out)) × Faithful (recordsOf s) (recordsOf out)
   loses-nothing =
-      let es = map rewritten (recordsOf s) in
-      rw back (stand, records-read-back es (hold-all s bytes ds stand), all-same s bytes ds stand)
+      rw back (records-stand s bytes, records-read-back (map rewritten (recordsOf s)) (records-hold s bytes), records-same s bytes)
 
   pub none-shorter : Shortest (recordsOf s) (recordsOf (compacted (recordsOf s)))
-  unfolding recordsOf
-  none-shorter = rw back (all-least s bytes ds stand)
+  none-shorter = rw back (records-least s bytes)

@@ -2,7 +2,8 @@
 --     rewritten-holds, hold-all          a record that is rewritten is one
 --     packet-same, all-same              and says the same
 --     stand-all, stand-done              the records of a reading, and those done, stand in the capture
---     entries-back                       the records of a file of records are those
+--     records-stand, records-hold, records-same     the same of all records of a capture
+--     entries-back, records-back         the records of a file of records are those
 -- Assumes nothing.
 use Prim.Native.Nat.{ℕ, _+_, _≤_}
 use native.Mathlib.Omega.{arith}
@@ -18,14 +19,14 @@ use Rattle.opus_format.specs.Frames.{lengths, cut}
 use Rattle.opus_format.specs.Reading.{Reading, refused, accepted, read}
 use Rattle.capture.specs.Records.{Entry, Holds, written, fileOf, HoldAll}
 use Rattle.capture.specs.Finding.{packetLength, packetAt, nextRecord}
-use Rattle.capture.specs.Reading.{behind, readings, answersFor, entryOf, entries, recordsIn}
+use Rattle.capture.specs.Reading.{behind, readings, answersFor, entryOf, entries, recordsIn, recordsOf}
 use Rattle.capture.specs.declared.NextRecord.{NextRecord}
 use Rattle.capture.proofs.Packets.{packet-front, packet-bytes}
 use Rattle.capture.proofs.Files.{file-one, answers-none, answers-one}
 use Rattle.capture.proofs.Written.{written-length, written-packet}
 use Rattle.capture.proofs.Answers.{next-stands}
 use Rattle.capture.proofs.Steps.{reading-induction}
-use Rattle.capture.proofs.Held.{records-none, records-one, records-end}
+use Rattle.capture.proofs.Held.{records-none, records-one, records-end, records-are}
 use Rattle.capture.proofs.Promises.{records-read-back}
 use Rattle.packet_pad.proofs.Spelled.{reading, cuts-back, reads-back}
 use Rattle.spelling.proofs.Laws.{no-longer, not-empty}
@@ -82,6 +83,16 @@ module _ (s : List ℕ) (bytes : Bytes s) where
   stand-front [] ys h = tt
   stand-front (x ∷ xs) ys h = (h .0, stand-front xs ys (h .1))
 
+  -- all records of the capture
+  pub records-stand : StandAll s (recordsIn (readings s 0))
+  records-stand = stand-all 0 (omega arith)
+
+  pub records-hold : HoldAll (map rewritten (recordsOf s))
+  records-hold = rw (records-are s) (hold-all (recordsIn (readings s 0)) records-stand)
+
+  pub records-same : Faithful (recordsOf s) (map rewritten (recordsOf s))
+  records-same = rw (records-are s) (all-same (recordsIn (readings s 0)) records-stand)
+
   pub stand-done : (at : ℕ) → at ≤ length s → (b : ℕ) → StandAll s (done s b (readings s at))
   stand-done at h b =
       let r = readings s at in
@@ -109,3 +120,6 @@ entries-from p (e ∷ es) h =
 
 pub entries-back : (es : List Entry) → HoldAll es → entries (fileOf es) (recordsIn (readings (fileOf es) 0)) ≡ es
 entries-back es h = rw (records-read-back es h) (entries-from [] es h)
+
+pub records-back : (es : List Entry) → HoldAll es → recordsOf (fileOf es) ≡ es
+records-back es h = records-are (fileOf es) ∙ entries-back es h

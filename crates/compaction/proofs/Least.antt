@@ -4,14 +4,16 @@ use Prim.Native.Nat.{ℕ, _≤_}
 use mathlib.Core.List.{List, [], _∷_, map}
 use mathlib.Core.Bool.{false}
 use lib.ListN.{length, drop}
+use Rattle.compaction.proofs.Faithful.{records-stand}
 use Rattle.laws.specs.Bytes.{Bytes}
 use Rattle.opus_defines.specs.Bounds.{mostPacket}
 use Rattle.opus_toc.specs.Toc.{upperSix}
 use Rattle.opus_format.specs.Frames.{cut}
 use Rattle.opus_format.specs.Format.{Spells}
-use Rattle.capture.specs.Reading.{entries}
+use Rattle.capture.specs.Reading.{entries, recordsOf, recordsIn, readings}
 use Rattle.capture.specs.declared.NextRecord.{NextRecord}
 use Rattle.capture.proofs.Packets.{packet-bytes}
+use Rattle.capture.proofs.Held.{records-are}
 use Rattle.packet_pad.proofs.Spelled.{read-whole}
 use Rattle.spelling.specs.Spelling.{shorter}
 use Rattle.spelling.proofs.Laws.{no-longer}
@@ -30,3 +32,6 @@ module _ (s : List ℕ) (bytes : Bytes s) where
   pub all-least : (ds : List NextRecord) → StandAll s ds → Shortest (entries s ds) (map rewritten (entries s ds))
   all-least [] h = no-more
   all-least (a ∷ ds) h = each (packet-least _ (packet-bytes s (a .place) bytes) (h .0 .0 .most)) (all-least ds (h .1))
+
+  pub records-least : Shortest (recordsOf s) (map rewritten (recordsOf s))
+  records-least = rw (records-are s) (all-least (recordsIn (readings s 0)) (records-stand s bytes))

@@ -5,7 +5,7 @@
 -- Assumes nothing.
 use Prim.Native.Nat.{ℕ, _+_, _≤_, _<_}
 use native.Mathlib.Omega.{arith}
-use mathlib.Core.Path.{_≡_, refl}
+use mathlib.Core.Path.{_≡_, refl, sym, _∙_}
 use mathlib.Core.List.{List}
 use mathlib.Core.Bool.{false}
 use lib.Dec.{ltb}
@@ -13,12 +13,11 @@ use lib.ListN.{length}
 use lib.Seq.{sets}
 use mir.Syntax.{w32}
 use mir.Val.{toZ, ofZ}
-use borrow.Author.Tests.{ltb-false, le-ltb}
+use borrow.Author.Tests.{ltb-false, le-ltb, ltb-true}
 use Rattle.io.specs.Counts.{Counts}
 use Rattle.laws.specs.Bytes.{Bytes}
 use Rattle.laws.proofs.Never.{never, by-test}
 use Rattle.opus_defines.specs.Numbers.{refusalReport, verdictReport}
-use Rattle.opus_defines.specs.Rules.{ruleRefusal}
 use Rattle.opus_defines.specs.declared.Refusal.{Refusal}
 use Rattle.opus_defines.specs.declared.Refusal.the-variants.{BadArg}
 use Rattle.opus_defines.specs.declared.Report.{Report}
@@ -32,12 +31,14 @@ use Rattle.opus.specs.declared.Packet.{Packet}
 use Rattle.opus_format.proofs.Facts.{facts}
 use Rattle.opus_format.proofs.Within.{refused-within}
 use Rattle.opus.proofs.Parsed.{lengthsOf, parsed-accepted, parsed-refused}
+use Rattle.opus.proofs.AtPacket.{parse-long, parse-read}
 use Rattle.opus_header.specs.Sums.{sumsOf}
 use Rattle.opus_header.specs.Forms.{compactBytes}
 use Rattle.opus_header.proofs.Forms.{compact-front, sums-few}
 use Rattle.opus_header.proofs.Standing.{compact-needs}
 use Rattle.show.proofs.Laid.{front-counts}
 use Rattle.opus_defines.proofs.Others.{refusal-few, report-rule, refusal-passed}
+use Rattle.opus_defines.proofs.Outcomes.{rule-report}
 use Rattle.listing_text.specs.Listing.{packetText, reportLine, refusedLine, listed, listing}
 use Rattle.listing_text.proofs.Room.{packet-most, report-most}
 
@@ -86,13 +87,13 @@ line-most c h =
 -- the reader refuses r, and x is what it says, as it is passed on
 module _ (p : List ℕ) (r : Packet) (e : r ≡ parsed false p) (c : Refusal) (v : r .verdict ≡ Refused c) where
   place-few : refusalReport c .place < 65536
-  unfolding parsed ruleRefusal
   place-few =
-      by-test (ltb 65535 (length p)) (λ t. let y = rw t at e in let b : c ≡ BadArg = cc in rw b (omega arith))
+      by-test (ltb 65535 (length p))
+      (λ t. let y = e ∙ sym (parse-long false p (ltb-true 65535 (length p) t)) in let b : c ≡ BadArg = cc in rw b (omega arith))
       (λ t.
       let short = ltb-false 65535 (length p) t in
       let q = parsed-refused false p r e c v short in
-      rw (q .2) (omega (arith, refused-within false p (q .0) (q .1) (q .3), short)))
+      rw (q .2, rule-report (q .0) (q .1)) (omega (arith, refused-within false p (q .0) (q .1) (q .3), short)))
 
   module _ (x : Report) (n : x ≡ verdictReport 0 (r .verdict)) where
     line-is : reportLine (toZ w32 (ofZ w32 (x .number))) (x .rule) (x .place) ≡ refusedLine c
@@ -102,10 +103,11 @@ module _ (p : List ℕ) (r : Packet) (e : r ≡ parsed false p) (c : Refusal) (v
     refused-room l h = rw line-is (omega (arith, line-most c place-few))
 
     pub listing-refused : listing p ≡ reportLine (toZ w32 (ofZ w32 (x .number))) (x .rule) (x .place)
-    unfolding parsed listing listed
+    unfolding listing listed
     listing-refused =
         rw line-is
-        (by-test (ltb 65535 (length p)) (λ t. rw t (let y = rw t at e in cc)) (λ t. rw t (go (rw t at e) (read false p) refl)))
+        (by-test (ltb 65535 (length p)) (λ t. rw t (let y = e ∙ sym (parse-long false p (ltb-true 65535 (length p) t)) in cc))
+        (λ t. rw t (go (e ∙ sym (parse-read false p (ltb-false 65535 (length p) t))) (read false p) refl)))
       where
         go : r ≡ packetOf (read false p) → (y : Reading) → read false p ≡ y → listed p (read false p) ≡ refusedLine c
         go f (refused rule place) q = rw q (let y = rw q at f in cc)

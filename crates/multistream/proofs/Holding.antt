@@ -20,8 +20,8 @@ use Rattle.laws.proofs.Never.{never}
 use Rattle.opus_toc.specs.Toc.{upperSix}
 use Rattle.opus_format.specs.Frames.{cut}
 use Rattle.opus_format.specs.Format.{Spells, Behind}
-use Rattle.opus_format.specs.Reading.{Reading, refused, accepted, read, framesOf}
-use Rattle.opus_format.proofs.Facts.{facts}
+use Rattle.opus_format.specs.Reading.{Reading, refused, accepted, read}
+use Rattle.opus_format.proofs.Facts.{facts, frames-read}
 use Rattle.opus_format.proofs.Sound.{read-spelled}
 use Rattle.opus_format.proofs.Complete.{spelled-read, spelled-six, spelled-frames}
 use Rattle.opus_header.specs.Compact.{compact}
@@ -64,10 +64,9 @@ held sd next p xs e = go (read sd p) refl e
 -- what is spelled reads as its stream, and then what stands behind it
 pub spelled-streams : {sd : Bool} {six : ℕ} {c : List ℕ} {frames : List (List ℕ)} (w : Spells sd six c frames) (rest : List ℕ) → Behind sd rest
     → (next : List ℕ → Streams) → thenStreams next (c ++ rest) (read sd (c ++ rest)) ≡ andStreams (record { six = six; frames = frames }) (next rest)
-unfolding framesOf
-spelled-streams {c = c} w rest b next =
+spelled-streams {sd = sd} {c = c} w rest b next =
     let reads = spelled-read w rest b in
-    let frames-are = rw reads at (spelled-frames w rest b) in
+    let frames-are = sym (frames-read sd (c ++ rest) _ _ _ _ reads) ∙ spelled-frames w rest b in
     rw (reads, spelled-six w, frames-are, drop-append-seam c rest)
 
 -- and it is passed over likewise

@@ -18,6 +18,7 @@ use Rattle.opus_defines.specs.Rules.{ruleRefusal, shifted}
 use Rattle.opus_defines.specs.Outcome.{leaves}
 use Rattle.opus_defines.specs.declared.Refusal.{Refusal}
 use Rattle.opus_defines.specs.declared.Rule.{Rule}
+use Rattle.opus_defines.proofs.Outcomes.{shifted-rule}
 use Rattle.opus_format.specs.Reading.{Reading, refused, accepted, read}
 use Rattle.opus.specs.Named.{Named, unnamed}
 use Rattle.opus.proofs.Naming.{rule-named}
@@ -47,7 +48,6 @@ refuses-named p e r = rw (r .is) (rule-named p (r .sd) (r .at) (r .rule) (r .pla
 
 -- n bytes further on
 refuses-behind : (p : List ℕ) (n : ℕ) (e : Refusal) → Refuses (drop n p) e → Refuses p (shifted n e)
-unfolding ruleRefusal
 refuses-behind p n e r =
     let there : drop (r .at) (drop n p) ≡ drop (n + r .at) p = drop-drop (r .at) n p in
     let place : n + (r .at + r .place) ≡ n + r .at + r .place = omega arith in
@@ -57,7 +57,7 @@ refuses-behind p n e r =
       rule = r .rule;
       place = r .place;
       reads = rw there at (r .reads);
-      is = ap (shifted n) (r .is) ∙ ap (ruleRefusal (r .rule)) place;
+      is = ap (shifted n) (r .is) ∙ shifted-rule n (r .rule) (r .at + r .place) ∙ ap (ruleRefusal (r .rule)) place;
     }
 
 refuses-here : (p : List ℕ) (sd : Bool) (rule : Rule) (place : ℕ) → read sd p ≡ refused rule place → Refuses p (ruleRefusal rule place)

@@ -19,11 +19,13 @@ use Rattle.laws.specs.Bytes.{Bytes}
 use Rattle.laws.proofs.Bytes.{bytes-drop}
 use Rattle.laws.proofs.Never.{never}
 use Rattle.opus_defines.proofs.Others.{shifted-none, shifted-more}
-use Rattle.opus_defines.specs.Rules.{ruleRefusal, shifted}
+use Rattle.opus_defines.specs.Rules.{shifted, ruleRefusal}
 use Rattle.opus_defines.specs.declared.Refusal.{Refusal}
 use Rattle.opus_defines.specs.declared.Verdict.{Verdict}
 use Rattle.opus_defines.specs.declared.Verdict.the-variants.{Accepted}
 use Rattle.opus_defines.specs.declared.Verdict.the-variants as Verdicts
+use Rattle.opus_defines.proofs.Outcomes.{rule-report}
+use Rattle.opus_defines.specs.Numbers.{refusalReport}
 use Rattle.opus_toc.specs.Toc.{upperSix}
 use Rattle.opus_format.specs.Frames.{cut}
 use Rattle.opus_format.specs.Reading.{Reading, refused, accepted, read}
@@ -58,11 +60,12 @@ pass-inside sd s n bytes e = go (read sd s) refl e
 
 -- the bytes passed are there, and so is the place of what cannot be read
 reach-within : (sd : Bool) (s : List ℕ) → Bytes s → reach (passBy (read sd s)) ≤ length s
-unfolding ruleRefusal
 reach-within sd s bytes = go (read sd s) refl
   where
     go : (x : Reading) → read sd s ≡ x → reach (passBy x) ≤ length s
-    go (refused rule place) q = refused-within sd s rule place q
+    go (refused rule place) q =
+        let within : refusalReport (ruleRefusal rule place) .place ≤ length s = rw (rule-report rule place) (refused-within sd s rule place q) in
+        within
     go (accepted toc ns first taken) q = taken-within sd s toc ns first taken bytes q
 
 -- as the code lends the stream

@@ -16,7 +16,6 @@ use mathlib.Core.List.{List, [], _++_, append-nil, append-assoc}
 use mathlib.Core.Bool.{Bool, true, false}
 use lib.ListN.{length, take, drop, length-append, length-drop}
 use lib.Seq.{sets, drop-drop, length-sets, length-take-le}
-use borrow.Author.Tests.{le-ltb}
 use borrow.Rule.Slice.PartAt.{part-to-end}
 use borrow.Rule.Slice.PartMut.{putMid}
 use Rattle.laws.specs.Bytes.{Bytes}
@@ -36,6 +35,7 @@ use Rattle.opus.proofs.Lent.{packetWith, lent-accepted}
 use Rattle.opus_header.specs.Header.{compactHeader}
 use Rattle.opus_header.specs.Compact.{compact}
 use Rattle.opus.proofs.Parsed.{lengthsOf}
+use Rattle.opus.proofs.AtPacket.{parse-read}
 use Rattle.packet_pad.proofs.Framed.{Lies, lies}
 use Rattle.multistream.specs.declared.Places.{Places}
 use Rattle.multistream.specs.Unpad.{Repacked, unread, repacked, ahead, repackReading, repackStreams}
@@ -47,8 +47,7 @@ use Rattle.blocks.proofs.LentParts.{sets-lent}
 -- ---- one stream
 pub accepted-verdict : (sd : Bool) (p : List ℕ) (r : Packet) → r ≡ parsed sd p → length p ≤ 65535 → isAccepted (read sd p) ≡ true
     → r .verdict ≡ Accepted
-unfolding parsed
-accepted-verdict sd p r e h ok = go (read sd p) (rw (le-ltb 65535 (length p) h) at e) ok
+accepted-verdict sd p r e h ok = go (read sd p) (e ∙ sym (parse-read sd p h)) ok
   where
     go : (x : Reading) → r ≡ packetOf x → isAccepted x ≡ true → r .verdict ≡ Accepted
     go (refused rule place) e a = never (cc)

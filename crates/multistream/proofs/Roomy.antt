@@ -14,7 +14,7 @@ use Rattle.opus_defines.specs.Rules.{ruleRefusal, shifted}
 use Rattle.opus_defines.specs.Outcome.{Effect, refusal, leaves}
 use Rattle.opus_defines.specs.declared.Refusal.the-variants.{BadArg}
 use Rattle.opus_defines.specs.declared.Rule.{Rule}
-use Rattle.opus_defines.proofs.Outcomes.{rule-number}
+use Rattle.opus_defines.proofs.Outcomes.{rule-number, shifted-rule}
 use Rattle.opus_format.specs.Reading.{Reading, refused, accepted, read}
 use Rattle.packet_pad.specs.Lengths.{lengthOf}
 use Rattle.multistream.specs.Streams.{streamsOf}
@@ -23,10 +23,6 @@ use Rattle.multistream.specs.Unpad.{Repacked, unread, repacked, ahead, r
 abbrev Unreadable : Repacked → Type 0
 Unreadable (unread e) = (rule : Rule) × (place : ℕ) × (e ≡ ruleRefusal rule place)
 Unreadable (repacked q) = Unit {0}
-
-shifted-rule : (n : ℕ) (rule : Rule) (place : ℕ) → shifted n (ruleRefusal rule place) ≡ ruleRefusal rule (n + place)
-unfolding ruleRefusal
-shifted-rule n rule place = refl
 
 ahead-unreadable : (q : List ℕ) (n : ℕ) (x : Repacked) → Unreadable x → Unreadable (ahead q n x)
 ahead-unreadable q n (unread e) (rule, place, h) = (rule, n + place, ap (shifted n) h ∙ shifted-rule n rule place)

@@ -13,14 +13,14 @@ use Rattle.laws.proofs.Never.{by-test}
 use Rattle.opus_defines.specs.Numbers.{refusalReport, verdictReport}
 use Rattle.opus_defines.specs.Rules.{ruleRefusal}
 use Rattle.opus_defines.specs.declared.Rule.{Rule}
+use Rattle.opus_defines.proofs.Outcomes.{rule-report}
 use Rattle.opus_format.specs.Reading.{Reading, refused, accepted, read}
 use Rattle.opus.specs.Answers.{packetOf, parsed}
 use Rattle.opus.specs.Named.{Named, unnamed, named}
 
 pub rule-named : (p : List ℕ) (sd : Bool) (at : ℕ) (rule : Rule) (place : ℕ) → read sd (drop at p) ≡ refused rule place
     → Named p (refusalReport (ruleRefusal rule (at + place)))
-unfolding ruleRefusal
-rule-named p sd at rule place r = named sd at rule place r refl
+rule-named p sd at rule place r = named sd at rule place r (rule-report rule (at + place))
 
 -- at the front
 pub front-named : (p : List ℕ) (sd : Bool) (rule : Rule) (place : ℕ) → read sd p ≡ refused rule place

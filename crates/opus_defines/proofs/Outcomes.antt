@@ -1,17 +1,17 @@
 -- What a call leaves of a lent buffer.
 --     refusal-keeps     a refusal leaves every byte: one law for every call
 --     meets             the two parts of an answer, from what the code answers and leaves
---     rule-number       an unreadable packet is -4
+--     rule-or, rule-report, rule-number, shifted-rule     the refusal of a packet that breaks a rule: its rule and place, -4, and n bytes further on
 --     refusal-negative, refusal-not     a refusal's number is negative
 -- Assumes nothing.
-use Prim.Native.Nat.{ℕ}
-use mathlib.Core.Path.{_≡_, refl}
+use Prim.Native.Nat.{ℕ, _+_}
+use mathlib.Core.Path.{_≡_, refl, ap}
 use mathlib.Core.List.{List}
 use lib.IntN.{pos, negsuc}
 use Rattle.laws.proofs.Never.{never}
 use Rattle.opus_defines.proofs.Others.{refusal-few}
-use Rattle.opus_defines.specs.Numbers.{refusalNumber}
-use Rattle.opus_defines.specs.Rules.{ruleRefusal}
+use Rattle.opus_defines.specs.Numbers.{ruleNumber, refusalReport, refusalNumber}
+use Rattle.opus_defines.specs.Rules.{ruleRefusal, unreadableOr, shifted}
 use Rattle.opus_defines.specs.Outcome.{Effect, refusal, wrote, Outcome, leaves}
 use Rattle.opus_defines.specs.declared.Refusal.{Refusal}
 use Rattle.opus_defines.specs.declared.Rule.{Rule}
@@ -24,9 +24,19 @@ refusal-keeps s (wrote k vs) n h = never (cc)
 pub meets : {o q : Outcome} {r : Report} {s : List ℕ} → o ≡ q → r ≡ q .report → s ≡ q .bytes → (r ≡ o .report) × (s ≡ o .bytes)
 meets e a b = rw e (a, b)
 
-pub rule-number : (r : Rule) (place : ℕ) → refusalNumber (ruleRefusal r place) ≡ negsuc 3
+pub rule-or : {A : Type 0} (f : Rule → ℕ → A) (a : A) (rule : Rule) (place : ℕ) → unreadableOr f a (ruleRefusal rule place) ≡ f rule place
 unfolding ruleRefusal
-rule-number r place = refl
+rule-or f a rule place = refl
+
+pub rule-report : (rule : Rule) (place : ℕ) → refusalReport (ruleRefusal rule place) ≡ record { number = negsuc 3; rule = ruleNumber rule; place = place }
+unfolding ruleRefusal
+rule-report rule place = refl
+
+pub rule-number : (rule : Rule) (place : ℕ) → refusalNumber (ruleRefusal rule place) ≡ negsuc 3
+rule-number rule place = ap (λ (r : Report). r .number) (rule-report rule place)
+
+pub shifted-rule : (n : ℕ) (rule : Rule) (place : ℕ) → shifted n (ruleRefusal rule place) ≡ ruleRefusal rule (n + place)
+shifted-rule n rule place = rule-or (λ r k. ruleRefusal r (n + k)) (ruleRefusal rule place) rule place
 
 pub refusal-negative : (e : Refusal) → (n : ℕ) × (refusalNumber e ≡ negsuc n)
 refusal-negative e = let k = refusal-few e in (k .0, k .2)

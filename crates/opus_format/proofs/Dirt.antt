@@ -1,4 +1,5 @@
 -- Padding bytes: those of the packet that the RFC spells, and when they are clean.
+--     dirt-is                       dirt by the padding bytes of what was read
 --     padding-is-spelled            the padding bytes of a packet that was read are the padding of every packet that the RFC reads there
 --     read-padding-is-spelled       of a packet that was read there is one
 --     spelled-dirt                  so it is dirty exactly where that padding is
@@ -25,6 +26,10 @@ use Rattle.opus_format.specs.Dirt.{paddingOf, dirty, dirtyPacket}
 use Rattle.opus_format.proofs.Frames.{total-lengths}
 use Rattle.opus_format.proofs.Complete.{spelled-read}
 use Rattle.opus_format.proofs.Sound.{read-spelled}
+
+pub dirt-is : (sd : Bool) (p : List ℕ) → dirtyPacket sd p ≡ dirty (paddingOf p (read sd p))
+unfolding dirtyPacket
+dirt-is sd p = refl
 
 -- ---- the padding of the RFC's packet
 behind-frames : (head padding : List ℕ) (frames : List (List ℕ))

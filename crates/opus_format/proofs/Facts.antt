@@ -1,13 +1,14 @@
 -- What callers know of a packet that was read, stated once.
 --     facts      count, lengths, places and time of an accepted packet
 --     said       its first bytes say how many frames it has
+--     frames-read, frames-counted     its frames, and how many they are
 -- Assumes nothing.
 use Prim.Native.Nat.{ℕ, suc, _+_, _*_, _%_, _≤_, _<_}
 use native.Mathlib.Omega.{arith}
 use mathlib.Core.Path.{_≡_, refl, sym, ap, _∙_}
 use mathlib.Core.List.{List, [], _∷_, _++_, append-assoc}
 use mathlib.Core.Bool.{Bool}
-use lib.ListN.{length, drop, length-append, length-replicate, take-append-drop}
+use lib.ListN.{length, drop, length-append, length-replicate, take-append-drop, length-map, length-drop}
 use lib.Seq.{length-take-le}
 use borrow.Author.Tests.{leb-true, le-leb}
 use Rattle.laws.specs.Bytes.{Bytes}
@@ -18,8 +19,8 @@ use Rattle.opus_toc.specs.Answers.{nbFrames}
 use Rattle.opus_toc.proofs.Samples.{lasts-at}
 use Rattle.opus_format.specs.Frames.{joined, cut, total, longest}
 use Rattle.opus_format.specs.Format.{Lasts, Layout, code0, code1, code2, code3equal, code3unequal}
-use Rattle.opus_format.specs.Reading.{accepted, read}
-use Rattle.opus_format.proofs.Frames.{total-lengths}
+use Rattle.opus_format.specs.Reading.{accepted, read, framesOf}
+use Rattle.opus_format.proofs.Frames.{total-lengths, lengths-cut}
 use Rattle.opus_format.proofs.Counts.{byte-count, lasts-few, two-last}
 use Rattle.opus_format.proofs.Padding.{padding-flag}
 use Rattle.opus_format.proofs.Sound.{read-spelled}
@@ -104,3 +105,14 @@ facts sd p toc ns first taken bytes r =
       lasts = l;
       short = leb-true (time toc (length ns)) 5760 (limit ∙ le-leb (length ns * duration (configuration toc)) 1200 (l .short));
     }
+
+module _ (sd : Bool) (p : List ℕ) (toc : ℕ) (ns : List ℕ) (first taken : ℕ) (r : read sd p ≡ accepted toc ns first taken) where
+  pub frames-read : framesOf p (read sd p) ≡ cut ns (drop first p)
+  unfolding framesOf
+  frames-read = rw r
+
+  pub frames-counted : Bytes p → length (framesOf p (read sd p)) ≡ length ns
+  frames-counted bytes =
+      let f = facts sd p toc ns first taken bytes r in
+      let lens = lengths-cut ns (drop first p) (omega (arith, f .block, f .within, length-drop first p)) in
+      ap length frames-read ∙ (sym (length-map (cut ns (drop first p)) length) ∙ ap length lens)

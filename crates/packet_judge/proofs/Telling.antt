@@ -7,7 +7,7 @@
 -- Assumes nothing.
 use Prim.Native.Nat.{ℕ, _+_, _-_, _≤_}
 use native.Mathlib.Omega.{arith}
-use mathlib.Core.Path.{_≡_, refl, sym, ap, _∙_}
+use mathlib.Core.Path.{_≡_, sym, ap, _∙_}
 use mathlib.Core.List.{List}
 use mathlib.Core.Bool.{Bool}
 use lib.Dec.{ltb}
@@ -22,6 +22,7 @@ use Rattle.opus_defines.specs.declared.Rule.{Rule}
 use Rattle.opus_defines.specs.declared.Refusal.{Refusal}
 use Rattle.opus_defines.specs.declared.Refusal.the-variants.{BadArg, Unreadable as Breaks}
 use Rattle.opus_defines.specs.declared.Verdict.the-variants.{Accepted, Refused as Refuses}
+use Rattle.opus_defines.proofs.Outcomes.{rule-or}
 use Rattle.opus_size.specs.Size.{mostBytes}
 use Rattle.opus_toc.specs.Toc.{upperSix}
 use Rattle.opus_format.specs.Frames.{total, longest}
@@ -49,8 +50,7 @@ pub other-unread : (e : Refusal) → ((rule : Rule) (place : ℕ) → e ≡ Brea
 other-unread e u = sym (other-or Unreadable (Refused e) e u)
 
 rule-unread : (rule : Rule) (place : ℕ) → unread (ruleRefusal rule place) ≡ Unreadable rule place
-unfolding ruleRefusal
-rule-unread rule place = refl
+rule-unread rule place = rule-or Unreadable (Refused (ruleRefusal rule place)) rule place
 
 module _ (sd : Bool) (p : List ℕ) (h : PacketHead) (l : List ℕ) (e : answerOf h l ≡ parsed sd p) where
   pub refused-told : (c : Refusal) → h .verdict ≡ Refuses c → unread c ≡ judged sd p

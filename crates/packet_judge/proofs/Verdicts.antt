@@ -25,13 +25,12 @@ use Rattle.opus_format.specs.Reading.{Reading, refused, accepted, read}
 use Rattle.opus_format.specs.Dirt.{paddingOf, dirty, dirtyPacket}
 use Rattle.opus_format.proofs.Frames.{total-lengths}
 use Rattle.opus_format.proofs.Complete.{spelled-read}
-use Rattle.opus_format.proofs.Dirt.{padding-is-spelled}
+use Rattle.opus_format.proofs.Dirt.{padding-is-spelled, dirt-is}
 use Rattle.opus_header.specs.Compact.{compact}
 use Rattle.opus_header.specs.Sums.{sumsOf}
 use Rattle.opus_header.specs.Forms.{compactBytes}
 use Rattle.opus_header.proofs.Forms.{compact-bytes, compact-size}
 use Rattle.opus_header.proofs.Standing.{compact-needs}
-use Rattle.padding.proofs.Looked.{dirt-is}
 use Rattle.packet_judge.specs.Judging.{leastBytes, said, judgeRead, judged, leastRead, leastLength}
 use Rattle.packet_judge.specs.declared.Judged.the-variants.{Refused, Unreadable, Dirty, Longer, Clean}
 

@@ -1,3 +1,4 @@
 pub mod Numbering
+pub mod Growing
 pub mod Lanes
 pub mod Examples

@@ -18,11 +18,11 @@ use mir.Val.{toZ, ofZ, SFits}
 use mir.ValLaws.{toZ-ofZ}
 use borrow.Author.Tests.{ne-eqb}
 use Rattle.opus_defines.specs.Numbers.{reportOf}
-use Rattle.opus_defines.specs.Rules.{ruleRefusal}
 use Rattle.opus_defines.specs.Outcome.{Effect, refusal, wrote, written, leaves, refuses}
 use Rattle.opus_defines.specs.declared.Refusal.{Refusal}
 use Rattle.opus_defines.specs.declared.Refusal.the-variants.{BadArg}
 use Rattle.opus_defines.specs.declared.Verdict.the-variants.{Refused}
+use Rattle.opus_defines.proofs.Outcomes.{rule-report}
 use Rattle.opus_toc.specs.Toc.{upperSix}
 use Rattle.opus_format.specs.Frames.{cut}
 use Rattle.opus_format.specs.Reading.{Reading, refused, accepted, read}
@@ -100,9 +100,9 @@ report-answered s (wrote n vs) = refl
 
 -- the place of a refusal is within the packet
 pub pad-place : (p : List ℕ) (new : ℕ) → reportOf (answered (padPacket p new)) .place ≤ length p
-unfolding padPacket ruleRefusal
+unfolding padPacket
 pad-place p new = go (read false p) refl
   where
     go : (x : Reading) → read false p ≡ x → reportOf (answered (padReading p new x)) .place ≤ length p
-    go (refused rule place) r = refused-within false p rule place r
+    go (refused rule place) r = rw (rule-report rule place) (refused-within false p rule place r)
     go (accepted toc ns first taken) r = omega arith

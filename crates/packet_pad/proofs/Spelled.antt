@@ -9,7 +9,7 @@
 -- Assumes nothing.
 use Prim.Native.Nat.{ℕ, _≤_, _<_}
 use native.Mathlib.Omega.{arith}
-use mathlib.Core.Path.{_≡_, refl, ap, _∙_}
+use mathlib.Core.Path.{_≡_, refl, ap, _∙_, sym}
 use mathlib.Core.List.{List, [], append-nil}
 use mathlib.Core.Bool.{Bool, true, false}
 use lib.IntN.{pos}
@@ -24,6 +24,7 @@ use Rattle.opus_format.specs.Format.{Spells, Behind}
 use Rattle.opus_format.specs.Reading.{accepted, read, framesOf}
 use Rattle.opus_format.proofs.Complete.{spelled-read, spelled-six, spelled-frames}
 use Rattle.opus_format.proofs.Sound.{read-spelled, ordinary-whole}
+use Rattle.opus_format.proofs.Facts.{frames-read}
 use Rattle.opus_header.specs.Compact.{compact, filling}
 use Rattle.opus_header.proofs.Rebuilt.{spelled-lasts, spelled-some}
 use Rattle.opus_header.proofs.Filling.{filling-spelled}
@@ -51,8 +52,7 @@ module _ {sd : Bool} {six : ℕ} {p : List ℕ} {frames : List (List ℕ)} (w : 
   reads-back = (rw (append-nil p) at (spelled-frames w [] (alone sd)), spelled-six w)
 
   pub cuts-back : cut (lengths frames) (drop (length (w .head)) p) ≡ frames
-  unfolding framesOf
-  cuts-back = rw reading at (reads-back .0)
+  cuts-back = sym (frames-read sd p _ _ _ _ reading) ∙ reads-back .0
 
   pub filling-of : (m : ℕ) → Spells sd six (filling sd six frames m) frames
   filling-of m = filling-spelled sd six frames m (spelled-lasts w) (w .small)

@@ -18,6 +18,7 @@ use Rattle.opus_toc.specs.Toc.{code, upperSix}
 use Rattle.opus_format.specs.Frames.{total}
 use Rattle.opus_format.specs.Reading.{Reading, Front, broken, front, unequal, equal, frames3, lasts, accept, read3, readCode, read}
 use Rattle.opus_format.specs.Dirt.{paddingOf, dirtyPacket}
+use Rattle.opus_format.proofs.Dirt.{dirt-is}
 use Rattle.padding.specs.Asked.{asksPadding}
 
 -- ---- the tests on the first two bytes
@@ -65,5 +66,4 @@ unasked sd (toc ∷ c ∷ s) a =
     unflagged-3 sd p (length p) toc c s (omega (arith, eqb-false (c / 64 % 2) 1 flag)))
 
 pub clean-unasked : (sd : Bool) (p : List ℕ) → asksPadding p ≡ false → false ≡ dirtyPacket sd p
-unfolding dirtyPacket
-clean-unasked sd p a = rw (unasked sd p a)
+clean-unasked sd p a = rw (dirt-is sd p, unasked sd p a)

@@ -1,7 +1,6 @@
 -- The bytes behind the frames, looked at.
 --     Most, most-none, most-more, most-all     the largest of the first bytes, as a loop goes over them
 --     Framed, framed                           a packet that was read: its padding lies behind its frames, up to its end
---     dirt-is                                  dirt by the padding bytes of what was read
 --     dirt-refused                             a packet that cannot be read is not dirty
 --     dirt-most                                the largest byte tells whether there is dirt
 --     dirt-told                                what is behind the frames tells whether the packet is dirty
@@ -20,11 +19,10 @@ use Rattle.opus_defines.specs.declared.Refusal.{Refusal}
 use Rattle.opus_defines.specs.declared.Verdict.the-variants.{Accepted, Refused}
 use Rattle.opus_size.specs.Size.{mostBytes}
 use Rattle.opus_format.specs.Frames.{total, longest}
-use Rattle.opus_format.specs.Reading.{read}
-use Rattle.opus_format.specs.Dirt.{paddingOf, dirty, dirtyPacket}
+use Rattle.opus_format.specs.Dirt.{dirty, dirtyPacket}
 use Rattle.opus_format.proofs.Lengths.{longest-more}
 use Rattle.opus_format.proofs.Facts.{facts}
-use Rattle.opus_format.proofs.Dirt.{dirty-most}
+use Rattle.opus_format.proofs.Dirt.{dirty-most, dirt-is}
 use Rattle.opus.specs.Answers.{parsed, answerOf}
 use Rattle.opus.specs.declared.Packet.{Packet}
 use Rattle.opus.specs.declared.PacketHead.{PacketHead}
@@ -47,10 +45,6 @@ most-more s most i most′ m h a = record { within = omega arith; most-is = rw (
 
 pub most-all : (s : List ℕ) (most i : ℕ) → Most s most i → length s ≤ i → most ≡ longest s
 most-all s most i m h = rw (take-all i s h) at (m .most-is)
-
-pub dirt-is : (sd : Bool) (p : List ℕ) → dirtyPacket sd p ≡ dirty (paddingOf p (read sd p))
-unfolding dirtyPacket
-dirt-is sd p = refl
 
 -- a packet that was read, with the reader's answer q
 pub record Framed (sd : Bool) (p : List ℕ) (q : Packet) : Type 0 where

@@ -2,7 +2,6 @@
 --     sets-first, sets-again, sets-more     one length more, as a loop stores them
 --     two-put                               two lengths, as the code stores them
 --     numbers-kept                          there are as many numbers as before
---     take-sets-at                          lengths that were stored behind others are read back with them
 --     cut-copied                            frames that were copied behind others are read back with them
 -- Assumes nothing.
 use Prim.Native.Nat.{ℕ, suc, _+_, _-_, _≤_, _<_}
@@ -10,8 +9,8 @@ use native.Mathlib.Omega.{arith}
 use native.Mathlib.Numerals.{add-one}
 use mathlib.Core.Path.{_≡_, ap, sym, _∙_}
 use mathlib.Core.List.{List, [], _∷_, _++_, append-assoc}
-use lib.ListN.{length, getD, take, drop, set, replicate, length-append, length-drop}
-use lib.Seq.{sets, set-set, sets-eq, take-at, drop-at, length-take-le, length-sets}
+use lib.ListN.{length, getD, take, drop, set, replicate, length-drop}
+use lib.Seq.{sets, set-set, sets-eq, drop-at, length-take-le, length-sets}
 use Rattle.opus_format.specs.Frames.{cut, total}
 use Rattle.opus_format.proofs.Lengths.{take-next, cut-append, cut-front}
 use Rattle.blocks.specs.Blocks.{part, copied}
@@ -43,11 +42,6 @@ pub numbers-kept : (l : List ℕ) (at end : ℕ) {m : List ℕ} → m ≡ sets l
 numbers-kept l at end e = ap length e ∙ length-sets l at (replicate (end - at) (numberAfter l at))
 
 -- ---- what was stored behind others
-pub take-sets-at : (l : List ℕ) (n : ℕ) (vs : List ℕ) → n + length vs ≤ length l → take (n + length vs) (sets l n vs) ≡ take n l ++ vs
-take-sets-at l n vs h =
-    let e : length (take n l ++ vs) ≡ n + length vs = length-append (take n l) vs ∙ ap (λ (k : ℕ). k + length vs) (length-take-le n l (omega arith)) in
-    rw (sets-eq vs l n h) (take-at (take n l ++ vs) (drop (n + length vs) l) (n + length vs) e)
-
 pub cut-copied : (ks ns store p : List ℕ) (first : ℕ) → total ks + total ns ≤ length store → first + total ns ≤ length p
     → cut (ks ++ ns) (copied store (total ks) p first (total ns)) ≡ cut ks store ++ cut ns (drop first p)
 cut-copied ks ns store p first h k =

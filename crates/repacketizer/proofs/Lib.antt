@@ -1,5 +1,4 @@
 pub mod Lengths
-pub mod Numbering
 pub mod Parsed
 pub mod Adds
 pub mod Kept

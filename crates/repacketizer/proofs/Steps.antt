@@ -6,13 +6,13 @@
 --     add-bytes     the store stays bytes
 --     add-six       the upper six TOC bits of what is accepted are those of what is held
 -- Assumes nothing.
-use mathlib.Core.Path.{_≡_, sym, _∙_, refl, ap, subst}
+use mathlib.Core.Path.{_≡_, sym, _∙_, refl, subst}
 use mathlib.Core.List.{List, _++_, append-nil}
 use mathlib.Core.Bool.{Bool, true}
 use Prim.Native.Nat.{ℕ, _+_, _*_, _≤_, _<_}
 use native.Mathlib.Omega.{arith}
 use lib.Dec.{leb, eqb}
-use lib.ListN.{length, getD, drop, replicate, length-drop, length-map}
+use lib.ListN.{length, getD, drop, replicate}
 use lib.Seq.{length-sets}
 use Rattle.laws.specs.Bytes.{Bytes}
 use borrow.Author.Tests.{eqb-true, eqb-false, ne-eqb}
@@ -22,14 +22,15 @@ use Rattle.laws.proofs.Bytes.{bytes-take, bytes-drop, bytes-sets}
 use Rattle.opus_defines.specs.declared.Refusal.{Refusal}
 use Rattle.opus_defines.specs.declared.Verdict.the-variants.{Accepted, Refused}
 use Rattle.opus_size.specs.Size.{mostBytes}
-use Rattle.opus_format.specs.Frames.{cut, total, longest}
+use Rattle.opus_format.specs.Frames.{total, longest}
 use Rattle.opus_format.specs.Reading.{accepted, read, framesOf}
 use Rattle.opus_toc.specs.Toc.{upperSix}
-use Rattle.opus_format.proofs.Frames.{lengths-cut}
 use Rattle.opus_format.proofs.Sound.{read-spelled}
-use Rattle.opus_format.proofs.Facts.{Facts, facts}
+use Rattle.opus_format.proofs.Facts.{Facts, facts, frames-read, frames-counted}
 use Rattle.blocks.specs.Blocks.{part}
+use Rattle.blocks.proofs.Sets.{take-sets-at}
 use Rattle.packet_numbers.specs.Numbers.{numberAfter}
+use Rattle.packet_numbers.proofs.Growing.{put-numbers, numbered-grown, after-grown}
 use Rattle.collector.specs.Collector.{held, heldLengths, heldNumbers, framed}
 use Rattle.collector.specs.declared.OpusRepacketizer.{OpusRepacketizer}
 use Rattle.repacketizer.specs.Adding.{Adding, goesWith, withFrames, Addition, refusal, takes, leavesAdd, addsBy}
@@ -37,8 +38,7 @@ use Rattle.repacketizer.specs.Runs.{State, Ready, Arrival, adding, after
 use Rattle.opus_format.proofs.Lengths.{longest-append}
 use Rattle.collector.proofs.Sound.{full-framed, sound-framed, sound-numbered, both-sound}
 use Rattle.collector.proofs.Held.{Holding, holding}
-use Rattle.repacketizer.proofs.Lengths.{take-sets-at, cut-copied}
-use Rattle.repacketizer.proofs.Numbering.{put-numbers, numbered-grown, after-grown}
+use Rattle.repacketizer.proofs.Lengths.{cut-copied}
 use Rattle.repacketizer.proofs.Adds.{with-few, with-timed, with-room, taken, Took, took-goes}
 use Rattle.repacketizer.proofs.StrictAdds.{by-adds, took-by}
 
@@ -102,8 +102,9 @@ module _ (sd : Bool) (s : State) (p : List ℕ) (r : Ready s) (b : Bytes p) (toc
       }
 
   taken-held : held (withFrames (s .rp) toc ns) (taken (s .rp) toc ns p first (s .store) .store) ≡ held (s .rp) (s .store) ++ framesOf p (read sd p)
-  unfolding framesOf
-  taken-held = rw (grown, q) (cut-copied (heldLengths (s .rp)) ns (s .store) p first room (omega (arith, read-facts .block, read-facts .within)))
+  taken-held =
+      rw (grown, frames-read sd p toc ns first end q)
+      (cut-copied (heldLengths (s .rp)) ns (s .store) p first room (omega (arith, read-facts .block, read-facts .within)))
 
 -- ---- any packet, added strictly or not
 abbrev additionOf : State → Arrival → Addition
@@ -197,17 +198,14 @@ pub record Numbers (s : State) (a : Arrival) (x : Adding) : Type 0 where
   pub stays : {e : Refusal} → x .answer .verdict ≡ Refused e → x .answer .rp ≡ s .rp
 
 pub add-numbers : (s : State) (a : Arrival) → Ready s → Bytes (a .packet) → Numbers s a (adding s a)
-unfolding framesOf
 add-numbers s a r b = subst (Numbers s a) (sym (adding-is s a)) (go (additionOf s a) refl)
   where
     go : (x : Addition) → additionOf s a ≡ x → Numbers s a (leavesAdd (s .rp) (a .packet) (s .store) x)
     go (refusal e) h = record { is = λ v. never (cc); stays = λ v. refl }
     go (takes toc ns first) h =
         let t = took-by (a .strict) (a .sd) (s .rp) (a .packet) (length (s .store)) toc ns first h in
-        let f = facts (a .sd) (a .packet) toc ns first (t .end) b (t .reads) in
-        let lens = lengths-cut ns (drop first (a .packet)) (omega (arith, f .block, f .within, length-drop first (a .packet))) in
-        let count : length (cut ns (drop first (a .packet))) ≡ length ns = sym (length-map (cut ns (drop first (a .packet))) length) ∙ ap length lens in
+        let count = frames-counted (a .sd) (a .packet) toc ns first (t .end) (t .reads) b in
         record {
-          is = λ v. rw (t .reads, count) (taken-numbers (a .sd) s (a .packet) r b toc ns first (t .end) (t .reads) (took-goes b t));
+          is = λ v. rw count (taken-numbers (a .sd) s (a .packet) r b toc ns first (t .end) (t .reads) (took-goes b t));
           stays = λ v. never (cc);
         }

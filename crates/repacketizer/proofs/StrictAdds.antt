@@ -28,6 +28,7 @@ use Rattle.opus_toc.specs.Toc.{code}
 use Rattle.padding.proofs.Asking.{asks-not-3, clean-unasked}
 use Rattle.opus_format.specs.Dirt.{paddingOf, dirty, dirtyPacket}
 use Rattle.opus_format.specs.Reading.{Reading, refused, accepted, read}
+use Rattle.opus_format.proofs.Dirt.{dirt-is}
 use Rattle.opus.proofs.AtShort.{ShortRead}
 use Rattle.collector.specs.declared.OpusRepacketizer.{OpusRepacketizer}
 use Rattle.collector.specs.declared.Head.{Head}
@@ -107,8 +108,7 @@ by-ordinary sd rp p store = refl
 -- such a packet can be read
 pub dirty-read : (sd : Bool) (p : List ℕ) → dirtyPacket sd p ≡ true
     → (toc : ℕ) × (ns : List ℕ) × (first : ℕ) × (end : ℕ) × (read sd p ≡ accepted toc ns first end)
-unfolding dirtyPacket
-dirty-read sd p d = go (read sd p) refl d
+dirty-read sd p d = go (read sd p) refl (sym (dirt-is sd p) ∙ d)
   where
     go : (x : Reading) → read sd p ≡ x → dirty (paddingOf p x) ≡ true
         → (toc : ℕ) × (ns : List ℕ) × (first : ℕ) × (end : ℕ) × (read sd p ≡ accepted toc ns first end)

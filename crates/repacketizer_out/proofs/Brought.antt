@@ -6,22 +6,19 @@
 use Prim.Native.Nat.{ℕ, zero, suc, _+_, _≤_, _<_}
 use native.Mathlib.Nat.{zero-add, add-zero}
 use native.Mathlib.Omega.{arith}
-use mathlib.Core.Path.{_≡_, refl, sym, ap, _∙_}
+use mathlib.Core.Path.{_≡_, refl, ap, _∙_}
 use mathlib.Core.List.{List, [], _∷_, _++_, append-nil}
 use mathlib.Core.Bool.{true, false}
 use lib.Dec.{ltb}
 use lib.IntN.{ℤ, pos, negsuc}
-use lib.ListN.{length, drop, replicate, length-drop, length-map}
+use lib.ListN.{length, replicate}
 use borrow.Author.Tests.{eq-eqb, ne-eqb, le-ltb, ltb-false}
 use Rattle.laws.proofs.Never.{by-test}
 use Rattle.opus_defines.specs.Bounds.{mostPacket}
 use Rattle.opus_defines.specs.Outcome.{leaves, refuses}
 use Rattle.opus_defines.specs.declared.Refusal.the-variants.{BadArg}
 use Rattle.opus_toc.specs.Toc.{upperSix}
-use Rattle.opus_format.specs.Frames.{cut}
-use Rattle.opus_format.specs.Reading.{framesOf}
-use Rattle.opus_format.proofs.Frames.{lengths-cut}
-use Rattle.opus_format.proofs.Facts.{facts}
+use Rattle.opus_format.proofs.Facts.{facts, frames-counted}
 use Rattle.collector.specs.Collector.{held, heldNumbers, leastStore}
 use Rattle.repacketizer.specs.Runs.{State, Ready, Arrival, framesIn, framesOfAll, blocks}
 use Rattle.repacketizer.proofs.Runs.{Came, AllCame}
@@ -87,13 +84,9 @@ came-at six (b ∷ before) a after c = came-at six before a after (c .1)
 
 -- an accepted packet has a frame
 came-some : (six : ℕ) (a : Arrival) → Came six a → 1 ≤ length (framesIn a)
-unfolding framesOf
 came-some six a c =
     let f = facts (a .sd) (a .packet) (c .toc) (c .ns) (c .first) (c .end) (c .bytes) (c .reads) in
-    let lens = lengths-cut (c .ns) (drop (c .first) (a .packet)) (omega (arith, f .block, f .within, length-drop (c .first) (a .packet))) in
-    let count : length (cut (c .ns) (drop (c .first) (a .packet))) ≡ length (c .ns) =
-    sym (length-map (cut (c .ns) (drop (c .first) (a .packet))) length) ∙ ap length lens in
-    rw (c .reads, count) (f .some)
+    rw (frames-counted (a .sd) (a .packet) (c .toc) (c .ns) (c .first) (c .end) (c .reads) (c .bytes)) (f .some)
 
 -- ---- the output, of a collector whose frames came in the packets l
 module _ (s : State) (r : Ready s) (l : List Arrival) (numbers : heldNumbers (s .rp) ≡ blocks 0 l) (frames : held (s .rp) (s .store) ≡ framesOfAll l)

@@ -26,6 +26,7 @@ use Rattle.opus_defines.specs.Numbers.{countOf}
 use Rattle.opus_defines.specs.declared.Count.the-variants.{Negative}
 use Rattle.opus_toc.specs.Toc.{upperSix}
 use Rattle.packet_numbers.specs.Numbers.{steps, numbered}
+use Rattle.packet_numbers.proofs.Growing.{numbered-steps, numbered-first}
 use Rattle.collector.specs.declared.OpusRepacketizer.{OpusRepacketizer}
 use Rattle.collector.specs.Collector.{held, leastStore, sound}
 use Rattle.collector.proofs.Sound.{sound-framed, sound-numbered}
@@ -136,11 +137,6 @@ rising-range k b (n ∷ ks) (f ∷ frames) s l =
         )
 
 -- ---- sound numbers
-rises : (ks : List ℕ) → numbered ks ≡ true → steps 0 ks ≡ true
-unfolding numbered
-rises [] s = refl
-rises (k ∷ ks) s = let z = both-left (eqb k 0) (steps k ks) s in rw (z, both-right (eqb k 0) (steps k ks) s)
-
 near : (b n : ℕ) → eqb n b || eqb n (b + 1) ≡ true → n ≤ b + 1
 near b n g = by-test (eqb n b) (λ e. omega (arith, eqb-true n b e)) (λ e. omega (arith, eqb-true n (b + 1) (rw e at g)))
 
@@ -154,12 +150,12 @@ brought-past k b (n ∷ ks) (f ∷ frames) h s =
     rw (ne-eqb n k (λ e. omega arith)) (brought-past k n ks frames (omega arith) (both-right (eqb n b || eqb n (b + 1)) (steps n ks) s))
 
 brought-high : (k : ℕ) (ks : List ℕ) (frames : List (List ℕ)) → length ks ≤ k → numbered ks ≡ true → broughtBy k ks frames ≡ []
-unfolding broughtBy numbered
+unfolding broughtBy
 brought-high k [] frames h s = refl
 brought-high k (n ∷ ks) [] h s = refl
 brought-high k (n ∷ ks) (f ∷ frames) h s =
-    let zeroth = eqb-true n 0 (both-left (eqb n 0) (steps n ks) s) in
-    rw (ne-eqb n k (λ e. omega arith)) (brought-past k n ks frames (omega arith) (both-right (eqb n 0) (steps n ks) s))
+    let f = numbered-first n ks s in
+    rw (ne-eqb n k (λ e. omega (arith, f .0))) (brought-past k n ks frames (omega (arith, f .0)) (f .1))
 
 -- ---- the output
 pub some-output : (six : ℕ) (x : List (List ℕ)) (room : ℕ) → 1 ≤ length x → outputSome six x room ≡ output false false six x room
@@ -177,7 +173,7 @@ module _ (six : ℕ) (frames : List (List ℕ)) (room n : ℕ) (packet : List �
   at-number : (k : ℕ) → k < 48
       → outputSome six (broughtBy k numbers frames) room ≡ outFrames false false six frames (pos (below k numbers)) (pos (below (k + 1) numbers)) room
   at-number k h =
-      let brought = rising-range k 0 numbers frames (rises numbers sound) (omega (arith, same, count)) in
+      let brought = rising-range k 0 numbers frames (numbered-steps numbers sound) (omega (arith, same, count)) in
       let end = below-few (k + 1) numbers in
       by-test (ltb (below k numbers) (below (k + 1) numbers))
       (λ t. let long = length-range (below k numbers) (below (k + 1) numbers) frames (omega (arith, end, count, same)) in

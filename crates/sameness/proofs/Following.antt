@@ -1,5 +1,5 @@
 -- The parts of an original, found one behind the other in a new file.
---     records-back, none-passed     a file of records, read back
+--     none-passed                   a file of records passes nothing over
 --     Filed, followed-filed         a new file in which the parts are found is a file of records, which say what theirs say
 --     one-part, rest-behind         records that say what those of a part say, in whatever is held, and what is behind them
 --     filed-followed                and those of all parts: a file of such records is one in which the parts are found
@@ -16,7 +16,7 @@ use lib.Seq.{take-append-seam, drop-append-seam, take-append-le, drop-append-le}
 use Rattle.laws.specs.Bytes.{Bytes}
 use Rattle.laws.proofs.Bytes.{bytes-take, bytes-after}
 use Rattle.capture.specs.Records.{Entry, written, fileOf, HoldAll}
-use Rattle.capture.specs.Reading.{readings, recordsIn, recordsOf, passedOf}
+use Rattle.capture.specs.Reading.{recordsOf, passedOf}
 use Rattle.capture.proofs.Files.{file-none, file-one}
 use Rattle.capture.proofs.Written.{written-length}
 use Rattle.capture.proofs.Held.{all-counted}
@@ -24,18 +24,14 @@ use Rattle.capture_window.specs.Parts.{joinedUp, recordsOfAll}
 use Rattle.spelling.proofs.Laws.{no-longer}
 use Rattle.compaction.specs.Account.{rewritten}
 use Rattle.compaction.specs.Lossless.{Faithful, none, one}
-use Rattle.compaction.proofs.Faithful.{stand-all, hold-all, all-same, entries-back}
+use Rattle.compaction.proofs.Faithful.{records-back, records-hold, records-same}
 use Rattle.sameness.specs.Sameness.{Begins, Followed, over, next}
 use Rattle.sameness.proofs.Beginning.{file-append, hold-append, faithful-append, begins-once}
 
 -- ---- a file of records
 module _ (es : List Entry) (h : HoldAll es) where
-  pub records-back : recordsOf (fileOf es) ≡ es
-  unfolding recordsOf
-  records-back = entries-back es h
-
   pub none-passed : passedOf (fileOf es) ≡ 0
-  none-passed = omega (arith, all-counted (fileOf es), ap (λ (x : List Entry). length (fileOf x)) records-back)
+  none-passed = omega (arith, all-counted (fileOf es), ap (λ (x : List Entry). length (fileOf x)) (records-back es h))
 
 -- ---- such a file, of records that say what es say
 pub record Filed (es : List Entry) (new : List ℕ) : Type 0 where
@@ -129,21 +125,12 @@ file-no-longer (e ∷ es) =
 bytes-front : (x y : List ℕ) → Bytes (x ++ y) → Bytes x
 bytes-front x y h = rw (take-append-seam x y) at (bytes-take (length x) (x ++ y) h)
 
-module _ (p : List ℕ) (bytes : Bytes p) where
-  pub part-holds : HoldAll (map rewritten (recordsOf p))
-  unfolding recordsOf
-  part-holds = hold-all p bytes (recordsIn (readings p 0)) (stand-all p bytes 0 (omega arith))
-
-  pub part-same : Faithful (recordsOf p) (map rewritten (recordsOf p))
-  unfolding recordsOf
-  part-same = all-same p bytes (recordsIn (readings p 0)) (stand-all p bytes 0 (omega arith))
-
 pub anew-holds : (ps : List (List ℕ)) → Bytes (joinedUp ps) → HoldAll (map rewritten (recordsOfAll ps))
 unfolding joinedUp recordsOfAll
 anew-holds [] h = tt
 anew-holds (p ∷ ps) h =
     rw (map-append rewritten (recordsOf p) (recordsOfAll ps))
-    (hold-append (map rewritten (recordsOf p)) (map rewritten (recordsOfAll ps)) (part-holds p (bytes-front p (joinedUp ps) h))
+    (hold-append (map rewritten (recordsOf p)) (map rewritten (recordsOfAll ps)) (records-hold p (bytes-front p (joinedUp ps) h))
     (anew-holds ps (bytes-after p (joinedUp ps) h)))
 
 pub anew-same : (ps : List (List ℕ)) → Bytes (joinedUp ps) → Faithful (recordsOfAll ps) (map rewritten (recordsOfAll ps))
@@ -151,4 +138,4 @@ unfolding joinedUp recordsOfAll
 anew-same [] h = none
 anew-same (p ∷ ps) h =
     rw (map-append rewritten (recordsOf p) (recordsOfAll ps))
-    (faithful-append (part-same p (bytes-front p (joinedUp ps) h)) (anew-same ps (bytes-after p (joinedUp ps) h)))
+    (faithful-append (records-same p (bytes-front p (joinedUp ps) h)) (anew-same ps (bytes-after p (joinedUp ps) h)))

@@ -27,7 +27,7 @@ use Rattle.capture.proofs.Packets.{packet-front}
 use Rattle.capture.proofs.Written.{found-holds}
 use Rattle.capture.proofs.Answers.{next-line, next-stands, found}
 use Rattle.capture.proofs.Steps.{readings-end, readings-on}
-use Rattle.capture.proofs.Held.{records-none, records-one, records-end}
+use Rattle.capture.proofs.Held.{records-none, records-one, records-end, records-are}
 use Rattle.compaction.specs.Lossless.{Same}
 use Rattle.sameness.specs.Sameness.{Tells, Begins}
 use Rattle.sameness.proofs.Beginning.{begins-none, begins-more, heads}
@@ -64,16 +64,15 @@ pub record Looking (s new : List ℕ) (at to records : ℕ) : Type 0 where
   pub only : (n : ℕ) → Begins (recordsOf s) new n → (m : ℕ) × Begins (left s at) (drop to new) m
 
 pub looking-start : (s new : List ℕ) → Looking s new 0 0 0
-unfolding recordsOf
 looking-start s new =
     record {
       inside = omega arith;
       few = omega arith;
       done = [];
-      whole = refl;
+      whole = records-are s;
       count = refl;
       begun = begins-none new;
-      only = λ n b. (n, b);
+      only = λ n b. (n, rw (records-are s) at b);
     }
 
 -- where both have a record, of which the packet in the new file has k bytes

@@ -15,11 +15,12 @@ use Rattle.capture_window.specs.Parts.{joinedUp, parts, recordsOfAll}
 use Rattle.capture_window.proofs.Promises.{parts-are-the-file, parts-read-as-the-file}
 use Rattle.compaction.specs.Account.{rewritten}
 use Rattle.compaction.specs.Lossless.{Faithful}
+use Rattle.compaction.proofs.Faithful.{records-back, records-hold, records-same}
 use Rattle.sameness.specs.Sameness.{Begins, Followed}
 use Rattle.sameness.specs.declared.Seen.{Seen}
 use Rattle.sameness.proofs.Beginning.{file-append}
-use Rattle.sameness.proofs.Following.{records-back, none-passed, followed-filed, filed-followed}
-use Rattle.sameness.proofs.Following.{one-part, rest-behind, file-no-longer, part-holds, part-same, anew-holds, anew-same}
+use Rattle.sameness.proofs.Following.{none-passed, followed-filed, filed-followed}
+use Rattle.sameness.proofs.Following.{one-part, rest-behind, file-no-longer, anew-holds, anew-same}
 
 -- ---- 1. Where the parts of a file are all found in a new file, and nothing of that is left, no record is lost: whatever the chunks in which the file came,
 -- the new one has as many records, in the same order and with the same lines, whose packets say the same. And no byte of it is in no record.
@@ -56,8 +57,8 @@ whatever-is-held p ps bytes held more e enough =
     let rest = map rewritten (recordsOfAll ps) in
     let split : held ++ more ≡ fileOf own ++ fileOf rest =
     e ∙ (ap fileOf (map-append rewritten (recordsOf p) (recordsOfAll ps)) ∙ file-append own rest) in (
-      one-part (part-holds p bytes) (part-same p bytes) held more (fileOf rest) split enough,
-      rest-behind (part-holds p bytes) (part-same p bytes) held more (fileOf rest) split enough,
+      one-part (records-hold p bytes) (records-same p bytes) held more (fileOf rest) split enough,
+      rest-behind (records-hold p bytes) (records-same p bytes) held more (fileOf rest) split enough,
     )
 
 -- It is held where as many bytes are held as the part has.

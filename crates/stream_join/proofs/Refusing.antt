@@ -26,6 +26,7 @@ use Rattle.opus_defines.specs.Outcome.{refusal, written, intoRoom}
 use Rattle.opus_defines.specs.declared.Refusal.{Refusal}
 use Rattle.opus_defines.specs.declared.Refusal.the-variants.{BadArg, BufferTooSmall, InvalidPacket}
 use Rattle.opus_defines.specs.declared.Rule.{Rule}
+use Rattle.opus_defines.proofs.Outcomes.{shifted-rule}
 use Rattle.opus_toc.specs.Toc.{time}
 use Rattle.opus_format.specs.Frames.{cut, total}
 use Rattle.opus_format.specs.Reading.{Reading, refused, accepted, read}
@@ -87,9 +88,8 @@ module _ (s ns : List ℕ) (room : ℕ) where
 -- ---- the first packet that cannot be read
 ahead-stuck : (n : ℕ) (p : List ℕ) (r : Reading) (h : Held) (rule : Rule) (place : ℕ) → isAccepted r ≡ true → length p ≡ n
     → h ≡ stuck (ruleRefusal rule place) → thenPackets h p r ≡ stuck (ruleRefusal rule (n + place))
-unfolding ruleRefusal
 ahead-stuck n p (refused r l) h rule place a c e = never (cc)
-ahead-stuck n p (accepted toc ns first taken) h rule place a c e = rw (e, c)
+ahead-stuck n p (accepted toc ns first taken) h rule place a c e = rw (e, c, shifted-rule n rule place)
 
 pub first-unreadable : (k : ℕ) (ns s : List ℕ) → total ns ≤ length s → k < length ns
     → ((i : ℕ) → i < k → isAccepted (read false (getD (cut ns s) i [])) ≡ true)

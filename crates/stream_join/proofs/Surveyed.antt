@@ -30,6 +30,7 @@ use Rattle.opus_format.proofs.Within.{refused-within}
 use Rattle.multistream.specs.Reading.{Stream}
 use Rattle.multistream.proofs.Bounds.{taken-within}
 use Rattle.opus_defines.proofs.Others.{shifted-more}
+use Rattle.opus_defines.proofs.Outcomes.{rule-report}
 use Rattle.stream_join.specs.Join.{Held, stuck, holds, ahead, thenPackets, heldBy, lasting}
 use Rattle.stream_join.specs.Parts.{streamAt, packed, lookBy, andOne, ended, surveyedFrom, nothing, surveyed}
 use Rattle.stream_join.specs.Parts.{isSome, thenHeld, heldStreamsIn}
@@ -57,13 +58,12 @@ module _ (t : Tally) (i lasts bytes : ℕ) where
 -- ---- one that was looked at
 module _ (out sd : Bool) (p : List ℕ) where
   pub look-place : (e : Refusal) → Unread e ≡ lookBy out p (read sd p) → refusalReport e .place ≤ length p
-  unfolding ruleRefusal
   look-place e h = go (read sd p) refl h
     where
       go : (x : Reading) → read sd p ≡ x → Unread e ≡ lookBy out p x → refusalReport e .place ≤ length p
       go (refused rule place) q h =
           let same : e ≡ ruleRefusal rule place = cc in
-          rw same (refused-within sd p rule place q)
+          rw (same, rule-report rule place) (refused-within sd p rule place q)
       go (accepted toc ns first taken) q h = never (cc)
 
   look-taken : (n lasts bytes : ℕ) → Bytes p → Reads n lasts bytes ≡ lookBy out p (read sd p) → n ≤ length p

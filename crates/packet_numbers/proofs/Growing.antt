@@ -1,4 +1,5 @@
--- Numbers of packets behind others.
+-- Sound numbers of packets: from the first on, and more behind others.
+--     none-numbered, numbered-steps, numbered-first     no number is sound, and from 0 on others go by 0 or 1
 --     put-numbers        so many times a number stored behind others
 --     numbered-grown     the next number, so many times, behind sound ones is sound
 --     after-grown        and the number behind them is one more
@@ -12,12 +13,26 @@ use mathlib.Core.Bool.{true}
 use lib.Dec.{eqb}
 use lib.ListN.{length, getD, take, replicate, length-replicate, getD-replicate}
 use lib.Seq.{sets, length-take-le, getD-take}
-use borrow.Author.Tests.{eq-eqb, ne-eqb}
+use borrow.Author.Tests.{eqb-true, eq-eqb, ne-eqb}
 use Rattle.laws.proofs.Never.{by-test}
 use Rattle.laws.proofs.Every.{both-left, both-right}
 use Rattle.packet_numbers.specs.Numbers.{steps, numbered, numberAfter}
 use Rattle.packet_numbers.proofs.Numbering.{goes}
-use Rattle.repacketizer.proofs.Lengths.{take-sets-at}
+use Rattle.blocks.proofs.Sets.{take-sets-at}
+
+-- ---- from the first on
+pub none-numbered : numbered [] ≡ true
+unfolding numbered
+none-numbered = refl
+
+pub numbered-steps : (ks : List ℕ) → numbered ks ≡ true → steps 0 ks ≡ true
+unfolding numbered
+numbered-steps [] s = refl
+numbered-steps (k ∷ ks) s = let z = both-left (eqb k 0) (steps k ks) s in rw (z, both-right (eqb k 0) (steps k ks) s)
+
+pub numbered-first : (k : ℕ) (ks : List ℕ) → numbered (k ∷ ks) ≡ true → (k ≡ 0) × (steps k ks ≡ true)
+unfolding numbered
+numbered-first k ks s = (eqb-true k 0 (both-left (eqb k 0) (steps k ks) s), both-right (eqb k 0) (steps k ks) s)
 
 -- ---- numbers stored behind others
 pub put-numbers : (packet : List ℕ) (n count k : ℕ) → n + count ≤ length packet
