@@ -1,5 +1,6 @@
 pub mod Records
 pub mod Heads
+pub mod Params
 pub mod Examples
 pub mod Verdicts
 pub mod Words

@@ -1,1 +1,2 @@
 mod TwoAdds
+mod ThreeOuts

@@ -20,7 +20,7 @@ use prog.Wp.{Heap, Calls, Loops, WpFn}
 use ghost.Atoms.{Atoms, sem}
 use contract.Monad.{Fun, fact}
 use contract.Running.{givenOf, tables, tablesOf}
-use types.Kit.{Given, Item, ‵, raw, some, later, _⊛_, ⋆, _$_, _∵_, !, qed, move, keep, group}
+use types.Kit.{Given, ‵, raw, some, later, _⊛_, _$_, _∵_, !, qed, move, keep}
 use types.Kit.{use1, split, join, pick, fsplit, fjoin, suffices, frame, await, done}
 use types.Run.{look, init, and-then, no-more, assigns, land, returns, enter, alloc1, alloc0, params1, pass1, pass0, free0}
 use types.Part.{agg}
@@ -28,31 +28,27 @@ use sound.WpLaws.{FmC, fmOf}
 use denote.Laws.{Is, shows}
 use denote.Signed.{sint-lawful}
 use denote.Builtin.{i32}
-use denote.Ref.{RefT, ShrRef, ptr-vals, shr-tells}
-use denote.Signature.{plain, shrRefTo}
-use denote.Steps.{owned, peeks, heard, nothing}
-use denote.Struct.Laws as LL
+use denote.Ref.{RefT, ShrRef}
+use denote.Steps.{peeks, heard, nothing}
 use denote.Triple.Entry.{onEntry}
 use denote.Triple.Spec.{tripleOf}
 use denote.Triple.Statement.{Contract, Triple}
 use denote.Triple.Call.{calls-at}
 use denote.Triple.Clauses.{ensured, lasts}
 use denote.Triple.Table.{cited}
-use denote.Triple.Walked.{says, Stays, stay-dropped, walkOf, goes-dropped, ends-at}
-use denote.Exit.{yes}
+use denote.Triple.Walked.{says, walkOf, ends-at}
 use Rattle.opus_defines.specs.Numbers.{numberOf}
 use Rattle.collector.specs.declared.OpusRepacketizer.{OpusRepacketizer}
 use Rattle.collector.specs.Collector.{nbFramesHeld}
 use Rattle.collector.specs.Parts.{headOf}
 use Rattle.collector.proofs.OpusRepacketizer as T
 use Rattle.collector.proofs.OpusRepacketizer.Laws as T′
-use Rattle.collector.proofs.Head as D
-use Rattle.collector.proofs.Head.Laws as D′
 use Rattle.walks.proofs.Steps.{freed, concluded, here, local}
-use Rattle.walks.proofs.Lent.{ShrLoan, looked, shut}
+use Rattle.walks.proofs.Lent.{looked, shut}
 use Rattle.walks.proofs.LentTwo.{lent-two-shr, back-two-shr}
-use Rattle.aveluafi.proofs.Heads.{parts, head-vals, lengths-ref, packets-ref, head-is, toc-read, count-read, size-read}
+use Rattle.aveluafi.proofs.Heads.{parts, head-vals, lengths-ref, packets-ref, handed, toc-read, count-read, size-read}
 use Rattle.aveluafi.proofs.Heads.{lengths-at, packets-at, toc-typed, count-typed, size-typed, head-typed, lengths-stand, packets-stand}
+use Rattle.aveluafi.proofs.Params.{Param, lent, left, goes, spelt, tells}
 use Rattle.collector.proofs.nb_frames as core
 use Rattle.collector.proofs.nb_frames.Symbol as core-def
 use Rattle.collector.proofs.nb_frames.Symbol.{name as #core}
@@ -62,8 +58,8 @@ use Rattle.aveluafi.proofs.collecting.aveluafi_repacketizer_get_nb_fram
 use Rattle.aveluafi.proofs.collecting.aveluafi_repacketizer_get_nb_frames.Statement as stated
 use Rattle.aveluafi.proofs.collecting.aveluafi_repacketizer_get_nb_frames.Code as code
 
-abbrev stayed : Stays (f.ended .signature .params) (f.ended .kept)
-stayed = (stay-dropped (shrRefTo (0 ∷ []) tt (plain (λ _. T.the-row))) yes, tt)
+abbrev ps : List (Param 1)
+ps = lent 0 tt T.the-row ∷ []
 
 -- the contract that the proof cites
 abbrev Core : {M : Type 1} (𝓤 : URA M) (H : Heap 𝓤) (A : Atoms 𝓤) (mem : Memory → SProp 𝓤) (run : Routine → Fun 𝓤) → Contract 𝓤
@@ -74,7 +70,7 @@ module _ {M : Type 1} (𝓤 : URA M) (H : Heap 𝓤) (A : Atoms 𝓤) (W : Given
   abbrev x : RefT OpusRepacketizer
   x = record { ptr = (b, o); name = γ; now = h }
 
-  abbrev bound : walkOf 𝓤 H A f.ended stayed (f.clauses 𝓤 H A mem run) .Ghost
+  abbrev bound : walkOf 𝓤 H A f.ended (left ps) (f.clauses 𝓤 H A mem run) .Ghost
   bound = (((κ, tt), (q, tt), tt, (x, tt), (vptr b o ∷ [], tt)), tt)
 
   -- the clause that the core ensures
@@ -96,22 +92,12 @@ module _ {M : Type 1} (𝓤 : URA M) (H : Heap 𝓤) (A : Atoms 𝓤) (W : Given
       tt,
     )
 
-    abbrev loans : List (Item 𝓤)
-    loans = ‵ (ShrLoan w16 48 α δ b (o + 6) (h .len)) ∷ ‵ (ShrLoan w8 48 β ε b (o + 102) (h .packet))
-        ∷ ‵ (flft (α ∷ []) fullShare) ∷ ‵ (flft (β ∷ []) fullShare) ∷ []
-
-    goes-core : Is D.the-row (headOf h) (head-vals h) → ent 𝓤 (⋆ 𝓤 H A loans) (Core 𝓤 H A mem run .pre to-core)
-    goes-core is =
-        qed W loans ∵ nothing ! $ move ! (2 ∷ 0 ∷ []) $ fjoin ! $ move ! (1 ∷ 0 ∷ []) $ fjoin ! $
-        owned ! D.the-row (Is D.the-row) (LL.makes D.the-type D′.the-plain 𝓤 H A) (headOf h) (head-vals h) is $ fjoin ! $
-        nothing ! $ move ! (3 ∷ 0 ∷ []) $ join ! $ move ! (2 ∷ 0 ∷ []) $ join ! $ join ! $ frame ! $ done !
-
     core-says : (r : ℤ) → ent 𝓤 (ensured 𝓤 H A core.ended (core.clauses 𝓤 H A mem run) (to-core .0 .0) (to-core .0 .3) tt r) (fact 𝓤 (Says r))
     core-says r = exE 𝓤 _ (λ ws. snd∗ 𝓤 (sem 𝓤 H A (lasts core.ended (to-core .0 .0) (to-core .0 .3) ws)) (fact 𝓤 (Says r)))
 
   walk : FmC 𝓤 H (W .laws) C → Triple 𝓤 (C #core) (Core 𝓤 H A mem run)
       → ent 𝓤 (onEntry 𝓤 H A f.signature (bound .0 .0) (bound .0 .1) (bound .0 .3) (bound .0 .4))
-      (WpFn 𝓤 H C Λ code.function (vptr b o ∷ []) (walkOf 𝓤 H A f.ended stayed (f.clauses 𝓤 H A mem run) .post bound))
+      (WpFn 𝓤 H C Λ code.function (vptr b o ∷ []) (walkOf 𝓤 H A f.ended (left ps) (f.clauses 𝓤 H A mem run) .post bound))
   walk fm known =
       qed W ((‵ (flft κ q) ⊛ ‵ ftrue) ∷ ‵ (fsep (ShrRef (named 0) κ T.the-row .own x (vptr b o ∷ [])) ftrue) ∷ []) ∵
       split ! $ move ! (2 ∷ []) $ fsplit ! $ enter ! C Λ code.function (vptr b o ∷ []) _ $
@@ -130,8 +116,8 @@ module _ {M : Type 1} (𝓤 : URA M) (H : Heap 𝓤) (A : Atoms 𝓤) (W : Given
       lent-two-shr ! w16 48 w8 48 q′ 3 6 4 102 (lit< tt) refl refl b o (parts h) tt (h .len) (h .packet)
       refl (lengths-stand h g) refl (packets-stand h g) (λ α δ β ε.
       -- the call
-      group ! 4 $ use1 W (raw (Core 𝓤 H A mem run .pre (to-core α δ β ε))) (goes-core α δ β ε (head-is h g)) $
-      -- [what the core asks; what the lender keeps (three); the open borrow; _7; …; to _1; …; room for _0; …; true; true]
+      move ! (0 ∷ 1 ∷ 2 ∷ 3 ∷ 24 ∷ 25 ∷ []) $ handed ! b o h g α δ β ε $
+      -- [what the core asks; what the lender keeps (three); the open borrow; _7; …; to _1; …; room for _0; …]
       calls-at ! fm (Core 𝓤 H A mem run) known (to-core α δ β ε)
       (and-then ! (local ! 15 refl) (and-then ! (local ! 7 refl) (and-then ! (local ! 5 refl) (no-more !)))) (λ w.
       use1 W (later (some (λ (r : ℤ). ((‵ (flft (α ∷ []) fullShare) ⊛ ‵ (flft (β ∷ []) fullShare) ⊛ ‵ ftrue) ⊛ ‵ (i32 .own r (w ∷ [])))
@@ -147,7 +133,7 @@ module _ {M : Type 1} (𝓤 : URA M) (H : Heap 𝓤) (A : Atoms 𝓤) (W : Given
       -- [the token; true; what the result owns; _7; …; to _1; …; _0; …]
       returns ! (look ! 17 refl) $ freed ! 17 refl refl $ freed ! 15 refl refl $ freed ! 13 refl refl $ freed ! 11 refl refl $ freed ! 9 refl refl $
       freed ! 7 refl refl $ freed ! 5 refl refl $ freed ! 3 refl refl $ free0 ! $ keep ! (2 ∷ 0 ∷ []) $
-      suffices ! _ (ends-at 𝓤 H A f.ended stayed (f.clauses 𝓤 H A mem run) W bound w r (tt, tt) (tt, tt)) $ says ! e $
+      suffices ! _ (ends-at 𝓤 H A f.ended (left ps) (f.clauses 𝓤 H A mem run) W bound w r (tt, tt) (tt, tt)) $ says ! e $
       nothing ! $ move ! (2 ∷ 0 ∷ []) $ join ! $ frame ! $ nothing ! $ nothing ! $ fjoin ! $ done !))))))))))))))
 
 pub aveluafi-repacketizer-get-nb-frames-spec : {M : Type 1} → stated.statement M
@@ -157,10 +143,8 @@ aveluafi-repacketizer-get-nb-frames-spec 𝓤 H 𝓜 𝓖 𝓡 =
     let 𝓣 = tablesOf 𝓤 H 𝓜 (tables 𝓤 H 𝓜 𝓡 code.env) in
     let known = cited 𝓤 H (Core 𝓤 H (𝓖 .A) (𝓜 .mem) (𝓡 .run)) 𝓜 𝓡 code.env #core core-def.routine
     code.calls-collector·nb-frames (core-thm.met 𝓤 H 𝓜 𝓖 𝓡) in
-    let clauses = f.clauses 𝓤 H (𝓖 .A) (𝓜 .mem) (𝓡 .run) in
-    concluded 𝓤 H 𝓜 𝓖 𝓡 f.ended stayed clauses code.env #lent code.function (code.unfolded 𝓤 H 𝓜 𝓡)
-    (goes-dropped 𝓤 H (𝓖 .A) W 1 (shrRefTo (0 ∷ []) tt (plain (λ _. T.the-row))) yes (λ κs x f. refl), tt)
-    (λ κs. (ptr-vals, tt)) (λ κs. (shr-tells (named 0) (κs .0) T.the-row, tt))
+    concluded 𝓤 H 𝓜 𝓖 𝓡 f.ended (left ps) (f.clauses 𝓤 H (𝓖 .A) (𝓜 .mem) (𝓡 .run)) code.env #lent code.function
+    (code.unfolded 𝓤 H 𝓜 𝓡) (goes W ps) (spelt ps) (tells ps)
     (λ κs qs _ a _ are. via 𝓤 _ (fst∗ 𝓤 _ (emp 𝓤))
     (walk 𝓤 H (𝓖 .A) W (𝓜 .mem) (𝓡 .run) (𝓣 .C) (𝓣 .Λ) (κs .0) (qs .0)
     (a .0 .ptr .0) (a .0 .ptr .1) (a .0 .name) (a .0 .now) (fmOf 𝓤 H (W .laws) 𝓣) known))
