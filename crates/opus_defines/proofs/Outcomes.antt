@@ -1,13 +1,13 @@
 -- What a call leaves of a lent buffer.
 --     refusal-keeps     a refusal leaves every byte: one law for every call
---     meets             the two parts of an answer, from what the code answers and leaves
+--     meets, meets-number     the two parts of an answer, from what the code answers, a report or its number alone, and leaves
 --     rule-or, rule-report, rule-number, shifted-rule     the refusal of a packet that breaks a rule: its rule and place, -4, and n bytes further on
 --     refusal-negative, refusal-not     a refusal's number is negative
 -- Assumes nothing.
 use Prim.Native.Nat.{ℕ, _+_}
 use mathlib.Core.Path.{_≡_, refl, ap}
 use mathlib.Core.List.{List}
-use lib.IntN.{pos, negsuc}
+use lib.IntN.{ℤ, pos, negsuc}
 use Rattle.laws.proofs.Never.{never}
 use Rattle.opus_defines.proofs.Others.{refusal-few}
 use Rattle.opus_defines.specs.Numbers.{ruleNumber, refusalReport, refusalNumber}
@@ -21,8 +21,16 @@ pub refusal-keeps : (s : List ℕ) (x : Effect) (n : ℕ) → leaves s x .report
 refusal-keeps s (refusal e) n h = refl
 refusal-keeps s (wrote k vs) n h = never (cc)
 
+meets-by : {A : Type 0} (f : Report → A) {o q : Outcome} {a : A} {s : List ℕ} → o ≡ q → a ≡ f (q .report) → s ≡ q .bytes
+    → (a ≡ f (o .report)) × (s ≡ o .bytes)
+meets-by f e a b = rw e (a, b)
+
 pub meets : {o q : Outcome} {r : Report} {s : List ℕ} → o ≡ q → r ≡ q .report → s ≡ q .bytes → (r ≡ o .report) × (s ≡ o .bytes)
-meets e a b = rw e (a, b)
+meets = meets-by (λ r. r)
+
+pub meets-number : {o q : Outcome} {n : ℤ} {s : List ℕ} → o ≡ q → n ≡ q .report .number → s ≡ q .bytes → (n ≡ o .report .number)
+    × (s ≡ o .bytes)
+meets-number = meets-by (λ r. r .number)
 
 pub rule-or : {A : Type 0} (f : Rule → ℕ → A) (a : A) (rule : Rule) (place : ℕ) → unreadableOr f a (ruleRefusal rule place) ≡ f rule place
 unfolding ruleRefusal

@@ -21,7 +21,7 @@ lengthOf s (pos n) = cond (ltb (length s) n || ltb mostPacket n) 0 n
 -- a number that no call takes for a length: negative, 0, above the lent buffer s or above 65,535
 abbrev pub Outside : List ℕ → ℤ → Type 0
 Outside s (negsuc n) = Unit {0}
-Outside s (pos n) = (n ≡ 0) ⊎ ((length s < n) ⊎ (65535 < n))
+Outside s (pos n) = (n ≡ 0) ⊎ ((length s < n) ⊎ (mostPacket < n))
 
 -- the packet's length and the new one, which is not to be shorter
 abbrev pub lengthsBy : ℕ → ℕ → Lengths

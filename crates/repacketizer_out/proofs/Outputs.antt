@@ -24,6 +24,7 @@ use Rattle.opus_defines.specs.Outcome.{refusal, written, Outcome, leaves, refus
 use Rattle.opus_defines.specs.declared.Refusal.{Refusal}
 use Rattle.opus_defines.specs.declared.Refusal.the-variants.{BadArg, BufferTooSmall, InvalidState}
 use Rattle.opus_defines.specs.declared.Count.the-variants.{Negative}
+use Rattle.opus_defines.proofs.Outcomes.{meets-number}
 use Rattle.opus_toc.specs.Toc.{upperSix}
 use Rattle.opus_format.specs.Frames.{cut, total}
 use Rattle.blocks.proofs.Sets.{take-sets}
@@ -36,14 +37,9 @@ use Rattle.repacketizer.specs.Runs.{State, Ready}
 use Rattle.repacketizer_out.specs.Output.{range, outPacket, output, outFrames, outRange}
 use Rattle.repacketizer_out.proofs.Ranges.{part-of, length-held}
 
--- the two parts of an answer that is a number alone
-pub meets : {o q : Outcome} {n : ℤ} {s : List ℕ} → o ≡ q → n ≡ q .report .number → s ≡ q .bytes → (n ≡ o .report .number)
-    × (s ≡ o .bytes)
-meets e a b = rw e (a, b)
-
 -- a refusal, as the code leaves it
 pub refused-as : (e : Refusal) {o : Outcome} {dst : List ℕ} → o ≡ refuses e dst → (refusalNumber e ≡ o .report .number) × (dst ≡ o .bytes)
-refused-as e p = meets p refl refl
+refused-as e p = meets-number p refl refl
 
 -- ---- the collector, the store and the destination
 module _ (sd pad : Bool) (rp : OpusRepacketizer) (store : List ℕ) (begin end : ℤ) (dst : List ℕ) where

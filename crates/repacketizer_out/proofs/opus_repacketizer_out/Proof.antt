@@ -6,7 +6,8 @@ use borrow.Author.Needs.{needs}
 use lib.IntN.{pos}
 use mir.Syntax.{w32}
 use mir.Val.{toZ, ofZ, SFits}
-use Rattle.repacketizer_out.proofs.Outputs.{meets, out-passed}
+use Rattle.opus_defines.proofs.Outcomes.{meets-number}
+use Rattle.repacketizer_out.proofs.Outputs.{out-passed}
 use Rattle.repacketizer_out.proofs.opus_repacketizer_out.Statement.{statement}
 use Rattle.repacketizer_out.proofs.opus_repacketizer_out.Tie as tie
 
@@ -21,7 +22,7 @@ returns c =
     let r = c .before .before .opus-repacketizer-out-range-impl in
     let back : toZ w32 (ofZ w32 (r .result)) ≡ r .result = search needs in
     let o =
-    meets (out-passed false false (a .rp) (a .store .now) (pos 0) (pos (a .rp .«nb_frames»)) (a .«data» .now) (search needs) (count s)) (r .ensures .0)
+    meets-number (out-passed false false (a .rp) (a .store .now) (pos 0) (pos (a .rp .«nb_frames»)) (a .«data» .now) (search needs) (count s)) (r .ensures .0)
     (r .ensures .1) in
     (back ∙ o .0, o .1)
 

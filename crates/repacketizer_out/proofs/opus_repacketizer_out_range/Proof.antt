@@ -5,7 +5,8 @@ use mathlib.Core.Bool.{false}
 use borrow.Author.Needs.{needs}
 use mir.Syntax.{w32}
 use mir.Val.{toZ, ofZ}
-use Rattle.repacketizer_out.proofs.Outputs.{meets, out-passed}
+use Rattle.opus_defines.proofs.Outcomes.{meets-number}
+use Rattle.repacketizer_out.proofs.Outputs.{out-passed}
 use Rattle.repacketizer_out.proofs.opus_repacketizer_out_range.Statement.{statement}
 use Rattle.repacketizer_out.proofs.opus_repacketizer_out_range.Tie as tie
 
@@ -17,7 +18,7 @@ returns c =
     let a = s .args in
     let back : toZ w32 (ofZ w32 (r .result)) ≡ r .result = search needs in
     let o =
-    meets (out-passed false false (a .rp) (a .store .now) (a .begin) (a .end) (a .«data» .now) (s .fits .begin) (s .fits .end)) (r .ensures .0)
+    meets-number (out-passed false false (a .rp) (a .store .now) (a .begin) (a .end) (a .«data» .now) (s .fits .begin) (s .fits .end)) (r .ensures .0)
     (r .ensures .1) in
     (back ∙ o .0, o .1)
 

@@ -15,7 +15,8 @@ use Rattle.collector.proofs.Sound.{sound-bare}
 use Rattle.collector.proofs.Checks.{checked-sound}
 use Rattle.repacketizer_out.specs.Output.{outFrames, outRange}
 use Rattle.opus_defines.specs.Outcome.{leaves}
-use Rattle.repacketizer_out.proofs.Outputs.{meets, refused-as, out-unsound, out-tight}
+use Rattle.opus_defines.proofs.Outcomes.{meets-number}
+use Rattle.repacketizer_out.proofs.Outputs.{refused-as, out-unsound, out-tight}
 use Rattle.repacketizer_out.proofs.Outputs.{out-long, out-sound, frames-before, frames-under, frames-natural}
 use Rattle.repacketizer_out.proofs.out_answer.Statement.{statement}
 use Rattle.repacketizer_out.proofs.out_answer.Tie as tie
@@ -126,7 +127,7 @@ returns-6 c =
     let r = taken (checked t) in
     let begins = is-natural (a .begin) _ (counted (a .begin) (s .fits .begin) (n .count-of .ensures .0) (b .b .given .1)) in
     let ends = is-natural (a .end) _ (counted (a .end) (s .fits .end) (m .count-of2 .ensures .0) (e .e .given .1)) in
-    meets (ready t ∙ frames-natural (a .self-delimited) (a .pad) (upperSix (r .toc)) (held r (a .store .now)) (a .«data» .now) begins ends)
+    meets-number (ready t ∙ frames-natural (a .self-delimited) (a .pad) (upperSix (r .toc)) (held r (a .store .now)) (a .«data» .now) begins ends)
     (f .out-frames .ensures .0) (f .out-frames .ensures .1)
 
 pub out-answer-spec : {M : Type 1} → statement M

@@ -13,7 +13,8 @@ use Rattle.collector.specs.Collector.{held}
 use Rattle.collector.specs.Parts.{bare}
 use Rattle.collector.proofs.Held.{Holding, holding}
 use Rattle.repacketizer_out.proofs.Ranges.{Part, part-of, part-from}
-use Rattle.repacketizer_out.proofs.Outputs.{meets, refused-as, frames-none, held-past, held-within}
+use Rattle.opus_defines.proofs.Outcomes.{meets-number}
+use Rattle.repacketizer_out.proofs.Outputs.{refused-as, frames-none, held-past, held-within}
 use Rattle.repacketizer_out.proofs.out_frames.Statement.{statement}
 use Rattle.repacketizer_out.proofs.out_frames.Tie as tie
 
@@ -85,7 +86,7 @@ returns-3 c =
     let i = w .before .before .before .before in
     let s = entry (i .before .before) in
     let a = s .args in
-    meets
+    meets-number
     (held-within (a .self-delimited) (a .pad) (bare (a .h) (a .len .now)) (a .store .now) (a .«data» .now) (holds s) (a .begin) (a .end)
     (i .before .if1 .left) (within i) (from w))
     (f .put-frames .ensures .0) (f .put-frames .ensures .1)

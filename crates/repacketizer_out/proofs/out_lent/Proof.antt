@@ -5,7 +5,8 @@ use borrow.Author.Needs.{needs}
 use mir.Syntax.{w32}
 use mir.Val.{toZ, ofZ}
 use Rattle.collector.specs.Parts.{collectorOf}
-use Rattle.repacketizer_out.proofs.Outputs.{meets, out-passed}
+use Rattle.opus_defines.proofs.Outcomes.{meets-number}
+use Rattle.repacketizer_out.proofs.Outputs.{out-passed}
 use Rattle.repacketizer_out.proofs.out_lent.Statement.{statement}
 use Rattle.repacketizer_out.proofs.out_lent.Tie as tie
 
@@ -18,7 +19,7 @@ returns c =
     let back : toZ w32 (ofZ w32 (c .number-of .result)) ≡ c .number-of .result = search needs in
     let rp = collectorOf (a .h) (a .len .now) (a .packet .now) in
     let passed = out-passed (a .self-delimited) (a .pad) rp (a .store .now) (a .begin) (a .end) (a .«data» .now) (s .fits .begin) (s .fits .end) in
-    let o = meets passed (r .ensures .0) (r .ensures .1) in
+    let o = meets-number passed (r .ensures .0) (r .ensures .1) in
     (back ∙ (c .number-of .ensures ∙ o .0), o .1)
 
 pub out-lent-spec : {M : Type 1} → statement M

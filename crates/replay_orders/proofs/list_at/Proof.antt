@@ -8,7 +8,8 @@ use Rattle.replay_orders.proofs.list_at.Statement.{statement}
 use Rattle.replay_orders.proofs.list_at.Tie as tie
 
 abbrev Inv-loop : tie.InvT-loop
-Inv-loop input₀ work₀ n list₀ ns₀ next₀ i₀ input work list ns next i = (i ≤ 255) × (length input ≡ length input₀) × (length work ≡ length work₀)
+Inv-loop input₀ work₀ n list₀ ns₀ next₀ i₀ input work list ns next i =
+    (i ≤ 255) × (length input ≡ length input₀) × (length work ≡ length work₀)
 
 abbrev μ-loop : tie.MeasureT-loop
 μ-loop input₀ work₀ n list₀ ns₀ next₀ i₀ input work list ns next i = 255 - i

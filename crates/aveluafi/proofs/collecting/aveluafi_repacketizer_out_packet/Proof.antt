@@ -52,7 +52,7 @@ use Rattle.repacketizer_out.specs.Output.{outRange}
 use Rattle.repacketizer_out.specs.Numbered.{rangeOf, outNumbered}
 use Rattle.repacketizer_out.proofs.by_number.Range as G
 use Rattle.repacketizer_out.proofs.by_number.Range.Laws as G′
-use Rattle.repacketizer_out.proofs.Outputs.{meets}
+use Rattle.opus_defines.proofs.Outcomes.{meets-number}
 use Rattle.repacketizer_out.proofs.Numbered.{numbered-range}
 use Rattle.walks.proofs.Steps.{freed, concluded, here, local}
 use Rattle.walks.proofs.Lent.{ShrLoan, stand-long, looked, shut, lent-shr, back-shr}
@@ -129,7 +129,7 @@ module _ {M : Type 1} (𝓤 : URA M) (H : Heap 𝓤) (A : Atoms 𝓤) (W : Given
   told : Is T.the-row h (vals h) → (r : Range) (m : ℤ) (zs : List ℕ) → Finds r → Writes h (store .now) (r .begin) (r .end) (dst .now) m zs
       → (m ≡ outNumbered h (store .now) number (dst .now) .report .number) × (zs ≡ outNumbered h (store .now) number (dst .now) .bytes)
   told g r m zs n e =
-      meets (numbered-range h (toc-few h g) (stand-long w16 48 (h .len) (lengths-stand h g)) (stand-long w8 48 (h .packet) (packets-stand h g))
+      meets-number (numbered-range h (toc-few h g) (stand-long w16 48 (h .len) (lengths-stand h g)) (stand-long w8 48 (h .packet) (packets-stand h g))
       (store .now) number (dst .now) ∙ sym (ap (λ r. outRange false false h (store .now) (r .begin) (r .end) (dst .now)) n)) (e .0) (e .1)
 
   walk : FmC 𝓤 H (W .laws) C → Triple 𝓤 (C #finder) (Finder 𝓤 H A mem run) → Triple 𝓤 (C #core) (Core 𝓤 H A mem run)

@@ -6,7 +6,7 @@ use lib.ListN.{length}
 use borrow.Author.Needs.{needs}
 use mir.Syntax.{w32}
 use mir.Val.{toZ, ofZ}
-use Rattle.repacketizer_out.proofs.Outputs.{meets}
+use Rattle.opus_defines.proofs.Outcomes.{meets-number}
 use Rattle.repacketizer_out.proofs.Numbered.{numbered-as}
 use Rattle.repacketizer_out.proofs.by_number.opus_repacketizer_out_packet.Statement.{statement}
 use Rattle.repacketizer_out.proofs.by_number.opus_repacketizer_out_packet.Tie as tie
@@ -31,7 +31,7 @@ returns c =
     let a = s .args in
     let back : toZ w32 (ofZ w32 (o .opus-repacketizer-out-range .result)) ≡ o .opus-repacketizer-out-range .result = search needs in
     let is = numbered-as (a .rp) (byte s) (lengths s) (numbers s) (a .store .now) (a .number) (a .«data» .now) (s .fits .number) (r .range-of .ensures) in
-    let n = meets is (o .opus-repacketizer-out-range .ensures .0) (o .opus-repacketizer-out-range .ensures .1) in
+    let n = meets-number is (o .opus-repacketizer-out-range .ensures .0) (o .opus-repacketizer-out-range .ensures .1) in
     (back ∙ n .0, n .1)
 
 pub opus-repacketizer-out-packet-spec : {M : Type 1} → statement M

@@ -9,7 +9,8 @@ use Rattle.replay_collector.proofs.state.frames.Tie as tie
 
 abbrev Inv-loop : tie.InvT-loop
 Inv-loop input₀ store₀ len₀ packet₀ n form ns₀ next₀ i₀ input store len packet ns next i =
-    (i ≤ 48) × (length input ≡ length input₀) × (length store ≡ length store₀) × (length len ≡ length len₀) × (length packet ≡ length packet₀)
+    (i ≤ 48) × (length input ≡ length input₀) × (length store ≡ length store₀)
+    × (length len ≡ length len₀) × (length packet ≡ length packet₀)
 
 abbrev μ-loop : tie.MeasureT-loop
 μ-loop input₀ store₀ len₀ packet₀ n form ns₀ next₀ i₀ input store len packet ns next i = 48 - i
