@@ -1,6 +1,6 @@
 // The collector, lent to each call and updated there, as in the crate; exported. Each call takes it by reference, reads its head, lends its
-// lengths and numbers on to the core, and is proved by a walk of its code by hand; the crate walks and proofs/Heads.antt have what the walks share,
-// and both adds are one walk (proofs/collecting/TwoAdds.antt).
+// lengths and numbers on to the core, and is proved by a walk of its code by hand; the crate walks, proofs/Heads.antt and proofs/Params.antt have what the
+// walks share, both adds are one walk (proofs/collecting/TwoAdds.antt), and three outputs have one call (ThreeOuts.antt).
 ghost use mathlib.Core.Path.{_≡_};
 ghost use mathlib.Core.Bool.{false};
 ghost use Rattle.opus_defines.specs.Numbers.{numberOf};
