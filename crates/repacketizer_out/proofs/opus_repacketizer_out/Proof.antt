@@ -22,8 +22,8 @@ returns c =
     let r = c .before .before .opus-repacketizer-out-range-impl in
     let back : toZ w32 (ofZ w32 (r .result)) ≡ r .result = search needs in
     let o =
-    meets-number (out-passed false false (a .rp) (a .store .now) (pos 0) (pos (a .rp .«nb_frames»)) (a .«data» .now) (search needs) (count s)) (r .ensures .0)
-    (r .ensures .1) in
+    meets-number (out-passed false false (a .rp) (a .store .now) (pos 0) (pos (a .rp .«nb_frames»)) (a .«data» .now) (search needs) (count s))
+    (r .ensures .0) (r .ensures .1) in
     (back ∙ o .0, o .1)
 
 pub opus-repacketizer-out-spec : {M : Type 1} → statement M
