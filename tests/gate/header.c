@@ -747,6 +747,80 @@ static void nothing(void) {
     is("NULL head_write version 2", aveluafi_head_write(&h, NULL, 0), AVELUAFI_BAD_FIELD);
 }
 
+/* ---- the stack
+ * README: under 1 KB a call. Blocks go through a local of 65,536 bytes, which the compiler leaves out (crates/blocks); a compiler that did not would fault a
+ * node with small stacks. The memory below the caller is painted, the call is made, and the deepest byte that is not paint any more tells. */
+enum { DEEP = 98304, PAINT = 0xA5, MOST_STACK = 1024 };
+
+static __attribute__((noinline)) void paint(void) {
+    volatile uint8_t area[DEEP];
+    for (int i = 0; i < DEEP; i++)
+        area[i] = PAINT;
+}
+
+static __attribute__((noinline)) int deepest(void) {
+    volatile uint8_t area[DEEP];
+    int i = 0;
+    while (i < DEEP && area[i] == PAINT)
+        i++;
+    return DEEP - i;
+}
+
+/* What takes more is seen. */
+static __attribute__((noinline)) void takes_more(void) {
+    volatile uint8_t area[MOST_STACK + 64];
+    for (size_t i = 0; i < sizeof area; i++)
+        area[i] = 0;
+}
+
+/* The call must be accepted; it is made from the frame in which paint and deepest are called. */
+#define SHALLOW(what, call, accepted)                                        \
+    do {                                                                     \
+        paint();                                                             \
+        long answer = (call);                                                \
+        int used = deepest();                                                \
+        is("stack " what ", answer", answer, accepted);                      \
+        is("stack " what ", under 1 KB", used <= MOST_STACK ? 1 : used, 1);  \
+    } while (0)
+
+static void stack(void) {
+    enum { FRAMES = AVELUAFI_MOST_FRAMES * 1275, LONG = FRAMES + 2 };
+    static uint8_t large[AVELUAFI_MOST_PACKET], made[AVELUAFI_MOST_PACKET], file[AVELUAFI_RECORD_HEAD + LONG], rewritten[sizeof file];
+    static const uint16_t length = LONG;
+    struct aveluafi_repacketizer rp;
+    struct aveluafi_order all = {0, AVELUAFI_MOST_FRAMES, 0};
+    struct aveluafi_head_record h;
+    /* 48 frames of 2.5 ms and 1275 bytes */
+    large[0] = 0x83, large[1] = AVELUAFI_MOST_FRAMES;
+    static const uint8_t head[AVELUAFI_RECORD_HEAD] = {0x4B, 0x9D, 1, LONG >> 8, LONG & 255};
+    for (size_t i = 0; i < sizeof file; i++)
+        file[i] = i < sizeof head ? head[i] : large[i - sizeof head];
+    aveluafi_repacketizer_init(&rp);
+    paint();
+    takes_more();
+    is("stack of more than 1 KB is seen", deepest() > MOST_STACK, 1);
+    SHALLOW("packet_parse", aveluafi_packet_parse(large, LONG).number, AVELUAFI_MOST_FRAMES);
+    SHALLOW("packet_judge", aveluafi_packet_judge(large, LONG, false).number, AVELUAFI_OK);
+    SHALLOW("repacketizer_cat", aveluafi_repacketizer_cat(&rp, large, LONG, store, sizeof store).number, AVELUAFI_OK);
+    SHALLOW("repacketizer_get_nb_frames", aveluafi_repacketizer_get_nb_frames(&rp), AVELUAFI_MOST_FRAMES);
+    SHALLOW("repacketizer_out", aveluafi_repacketizer_out(&rp, store, sizeof store, made, sizeof made), LONG);
+    SHALLOW("repacketizer_out_packet", aveluafi_repacketizer_out_packet(&rp, store, sizeof store, 0, made, sizeof made), LONG);
+    SHALLOW("repacketizer_out_many", aveluafi_repacketizer_out_many(&rp, store, sizeof store, &all, 1, made, sizeof made).number, LONG);
+    aveluafi_repacketizer_init(&rp);
+    SHALLOW("repacketizer_cat_strict", aveluafi_repacketizer_cat_strict(&rp, large, LONG, store, sizeof store).number, AVELUAFI_OK);
+    SHALLOW("packet_pad", aveluafi_packet_pad(large, sizeof large, LONG, sizeof large).number, AVELUAFI_OK);
+    SHALLOW("packet_unpad", aveluafi_packet_unpad(large, sizeof large, sizeof large).number, LONG);
+    SHALLOW("multistream_packet_pad", aveluafi_multistream_packet_pad(large, sizeof large, LONG, sizeof large, 1).number, AVELUAFI_OK);
+    SHALLOW("multistream_packet_unpad", aveluafi_multistream_packet_unpad(large, sizeof large, sizeof large, 1).number, LONG);
+    SHALLOW("multistream_join", aveluafi_multistream_join(large, LONG, &length, 1, made, sizeof made).number, LONG);
+    SHALLOW("multistream_take", aveluafi_multistream_take(large, LONG, 1, 0, made, sizeof made).number, LONG);
+    SHALLOW("next_record", aveluafi_next_record(file, sizeof file, 0).length, LONG);
+    SHALLOW("compact", aveluafi_compact(file, sizeof file, 0, rewritten, sizeof rewritten, sizeof file).number, AVELUAFI_OK);
+    header_of(1, 255, 255), streams_of(128, 127);
+    SHALLOW("head_read", (h = aveluafi_head_read(header, AVELUAFI_MOST_HEAD), h.number), AVELUAFI_OK);
+    SHALLOW("head_write", aveluafi_head_write(&h.head, made, sizeof made), AVELUAFI_MOST_HEAD);
+}
+
 int main(void) {
     for (size_t i = 5; i < 27; i++)
         packet[i] = (uint8_t)(100 + i);
@@ -762,6 +836,7 @@ int main(void) {
     compacting();
     heading();
     nothing();
+    stack();
     is("the last", failures, 0);
     return failures > 0;
 }
