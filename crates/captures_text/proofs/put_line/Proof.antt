@@ -3,7 +3,6 @@
 use mathlib.Core.Path.{refl}
 use mathlib.Core.List.{[], _∷_, _++_}
 use borrow.Author.Needs.{needs}
-use Rattle.capture.specs.declared.NextRecord.{NextRecord}
 use Rattle.show.specs.Text.{decimal, numberLine}
 use Rattle.show.proofs.Laid.{Laid, Three, laid-ends, first-room, second-room, third-room, three-laid}
 use Rattle.captures_text.specs.Lines.{recordLine}
