@@ -5,7 +5,7 @@ ghost use Rattle.aveluafi.specs.Records.{capture_record};
 
 // A record of a capture, and the bytes passed over before it; all zeros beside a refusal.
 #[repr(C)]
-#[derive(Drop)]
+#[derive(Clone, Copy)]
 pub struct AveluafiRecord {
     // 0, or the refusal.
     pub number: i32,

@@ -5,7 +5,7 @@ ghost use Rattle.aveluafi.specs.Records.{share_record};
 
 // What a share did; all zeros beside a refusal.
 #[repr(C)]
-#[derive(Drop)]
+#[derive(Clone, Copy)]
 pub struct AveluafiShare {
     // 0, or the refusal.
     pub number: i32,

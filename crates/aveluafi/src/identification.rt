@@ -7,7 +7,7 @@ use opus_head::OpusHead;
 
 // A header that was read; all zeros beside a refusal.
 #[repr(C)]
-#[derive(Drop)]
+#[derive(Clone, Copy)]
 pub struct AveluafiHead {
     // 0, or the refusal.
     pub number: i32,

@@ -7,7 +7,7 @@ use packet_judge::Judged;
 
 // What a packet is judged to be. Beside a refusal every other field is 0, and beside a verdict each field that it does not have.
 #[repr(C)]
-#[derive(Drop)]
+#[derive(Clone, Copy)]
 pub struct AveluafiVerdict {
     // 0, or the refusal.
     pub number: i32,

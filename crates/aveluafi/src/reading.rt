@@ -16,7 +16,7 @@ use opus_size::Size;
 
 // A length that was read; 0 beside a refusal.
 #[repr(C)]
-#[derive(Drop)]
+#[derive(Clone, Copy)]
 pub struct AveluafiSize {
     // The bytes of its field, or the refusal, with the rule that was told where the field is cut short.
     pub report: Report,
@@ -25,7 +25,7 @@ pub struct AveluafiSize {
 
 // A packet that was read; all zeros beside the report of a refusal.
 #[repr(C)]
-#[derive(Drop)]
+#[derive(Clone, Copy)]
 pub struct AveluafiPacket {
     // The frames, or the refusal, with rule and place where the packet breaks a rule.
     pub report: Report,

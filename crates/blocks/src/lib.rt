@@ -3,6 +3,7 @@
 // Bytes are copied and moved in pieces, each read whole into a buffer before any of it is written. Of a piece whose width is a constant the compiler
 // makes wide loads and stores, of any other one call of memmove, and leaves the buffer out; where it does not, bench/run --stack shows it. A block of up
 // to 128 bytes is two pieces of one width, of which the last may lie partly over the first.
+#![tactic(auto)]
 
 pub mod moves;
 

@@ -2,6 +2,8 @@
 //
 // A record is the mark 4B 9D, a line number of one byte, the packet's length in two, high byte first, and a packet of 1 to 65,535 bytes.
 // It stands at a place only if all of it fits.
+#![tactic(auto)]
+
 ghost use Rattle.std.specs.Prelude.{◌≡◌, ◌<◌, ◌≤◌, length, drop};
 ghost use Rattle.capture.specs.Finding.{packet_length, packet_at, record_from, next_record};
 
@@ -11,7 +13,7 @@ use opus_defines::{Refusal, Verdict, wide_byte};
 pub const HEAD_BYTES: usize = 5;
 
 // What `next_record` answers: a record, and the bytes passed over before it. All zeros beside a refusal.
-#[derive(Drop)]
+#[derive(Clone, Copy)]
 pub struct NextRecord {
     pub verdict: Verdict,
     pub line: u8,

@@ -1,10 +1,12 @@
 // A capture of any size on a descriptor, read part by part: each part can be read as a capture of its own (crate capture_window).
+#![tactic(auto)]
+
 ghost use Rattle.std.specs.Prelude.{◌≡◌, ◌-◌, ◌≤◌, length};
 ghost use Rattle.blocks.specs.Blocks.{moved};
 ghost use Rattle.capture_parts.specs.Part.{FilledIn, PartOf};
 
 // What a buffer holds that was filled: whether no read failed, whether the file ends with it, and how many bytes.
-#[derive(Drop)]
+#[derive(Clone, Copy)]
 pub struct Filled {
     pub ok: bool,
     pub last: bool,
@@ -28,7 +30,7 @@ pub fn fill(fd: i32, buf: &mut [u8], held: usize) -> Filled
 }
 
 // A part at the front of a buffer: whether no read failed, whether the file ends with it, the bytes that are held, and those of the part.
-#[derive(Drop)]
+#[derive(Clone, Copy)]
 pub struct Part {
     pub ok: bool,
     pub last: bool,

@@ -1,5 +1,7 @@
 // What is counted of a capture (beyond document 02): its records, the bytes of their packets and those passed over, the verdicts on the packets (M-110), and
 // the bytes that compaction would reclaim (M-103).
+#![tactic(auto)]
+
 ghost use Rattle.std.specs.Prelude.{◌≡◌, cond, ◌+◌, ◌*◌, ◌<◌, ◌≤◌, ◌^◌, length, take};
 ghost use Rattle.capture.specs.Finding.{record_from};
 ghost use Rattle.capture_window.specs.Window.{settled};
@@ -9,7 +11,7 @@ use capture::HEAD_BYTES;
 use capture_window::WINDOW;
 use packet_judge::Tally;
 
-#[derive(Drop)]
+#[derive(Clone, Copy)]
 pub struct Survey {
     pub records: usize,
     pub packets: usize,
@@ -68,7 +70,7 @@ fn with_passed(sum: Survey, passed: usize) -> Survey
 }
 
 // Where the first record at or after a place stands, and the bytes of its packet. Where there is none: the end, 0.
-#[derive(Drop)]
+#[derive(Clone, Copy)]
 struct Standing {
     place: usize,
     length: usize,
@@ -92,7 +94,7 @@ fn standing_from(data: &[u8], at: usize) -> Standing
 }
 
 // What is counted so far and of the part at the front of what is held, and the bytes of that part: all at the end of the file, before as many as are settled.
-#[derive(Drop)]
+#[derive(Clone, Copy)]
 pub struct Surveyed {
     pub sum: Survey,
     pub bytes: usize,

@@ -2,6 +2,8 @@
 //
 // What stands at a place is told by its next 65,540 bytes, the longest record. Before the end of the file is known, 'none stands here' may be said only of a
 // place behind which so many are held: a record whose end is not held yet would else be missed, and marks inside it be taken for records.
+#![tactic(auto)]
+
 ghost use Rattle.std.specs.Prelude.{◌≡◌, ◌-◌, max};
 ghost use Rattle.capture_window.specs.Window.{settled as Window·settled};
 

@@ -1,4 +1,5 @@
 // Lists the records of the capture that standard input holds: a line `line place length` for each, in decimals.
+#![tactic(auto)]
 
 fn main() {
     // One byte more than the longest capture: an input that fills the buffer is too long, whatever is behind it.

@@ -1,4 +1,6 @@
 // The text of the program `captures`: a line `line place length` for each record of a capture, put into a buffer part by part.
+#![tactic(auto)]
+
 ghost use Rattle.std.specs.Prelude.{◌≡◌, ◌+◌, ◌≤◌, length};
 ghost use Rattle.std.proofs.lemmas.List.Edits.{sets};
 ghost use Rattle.io.specs.Counts.{IsPrefixLen};
@@ -14,7 +16,7 @@ pub const MOST_CAPTURE: usize = 65536;
 pub const LINE_MOST: usize = 16;
 
 // The bytes put into a buffer, and the place from which to go on.
-#[derive(Drop)]
+#[derive(Clone, Copy)]
 pub struct Lines {
     pub bytes: usize,
     pub next: usize,

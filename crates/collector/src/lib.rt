@@ -1,4 +1,6 @@
 // The collector: what it is, and whether it is sound (repacketizer.rs); by value, and as a head with its lengths and numbers lent.
+#![tactic(auto)]
+
 ghost use Rattle.std.specs.Prelude.{◌≡◌, ◌%◌, ◌≤◌, length};
 ghost use Rattle.opus_defines.specs.Numbers.{number_of};
 ghost use Rattle.opus_format.specs.Frames.{total};
@@ -14,7 +16,7 @@ pub const LEAST_STORE: usize = 61200;
 // Frames lie one behind another in a lent store; here are their lengths, the first packet's TOC byte and the frame size at 8 kHz, and of each frame the
 // number of the accepted packet that it came in, from 0 since the collector was last empty (document 02, M-107).
 #[repr(C)]
-#[derive(Drop)]
+#[derive(Clone, Copy)]
 pub struct OpusRepacketizer {
     pub toc: u8,
     pub nb_frames: u16,
@@ -51,7 +53,7 @@ pub fn total_16(ns: &[u16]) -> u16
 }
 
 // A collector without its lengths and numbers. They are lent beside it, since each struct that is passed would copy them.
-#[derive(Drop)]
+#[derive(Clone, Copy)]
 pub struct Head {
     pub toc: u8,
     pub nb_frames: u16,
@@ -70,7 +72,7 @@ pub fn head_of(rp: OpusRepacketizer) -> Head
 }
 
 // Whether a collector is sound, and the bytes of the frames held; 0 of one that is not.
-#[derive(Drop)]
+#[derive(Clone, Copy)]
 pub struct Checked {
     pub sound: bool,
     pub total: usize,
@@ -113,7 +115,7 @@ fn head_fits(h: Head) -> bool
 }
 
 // What the head alone says: all that there is to say, or how many frames are to be looked at.
-#[derive(Drop)]
+#[derive(Clone, Copy)]
 enum Front {
     Known(Checked),
     Held(usize),

@@ -1,6 +1,8 @@
 // Compacts a capture of any size on standard input (document 02, M-103, for a file as a whole): its records, each with its packet in the shorter spelling, go
 // to descriptor 3, one right behind another. A number of bytes as the first word is a budget: no record is begun that would pass it. What was done is said in
 // one line on standard output, the last word of which is `end`.
+#![tactic(auto)]
+
 ghost use Rattle.std.specs.Prelude.{◌≡◌, ◌+◌, ◌<◌, ◌≤◌, ◌^◌, min, length};
 ghost use Rattle.compact.specs.Stream.{share_of, joined as Stream·joined, none as Stream·none};
 
@@ -18,7 +20,7 @@ const MOST: usize = 1152921504606846976;
 const NEW_FILE: i32 = 3;
 
 // Whether what was to be written was, and the share that was made of a part.
-#[derive(Drop)]
+#[derive(Clone, Copy)]
 struct Put {
     ok: bool,
     share: Share,

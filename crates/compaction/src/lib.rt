@@ -1,5 +1,7 @@
 // A share of compaction (document 02, M-103): the records of a capture from a place on, each with its packet in the shorter spelling, as many as a budget of
 // bytes holds.
+#![tactic(auto)]
+
 ghost use Rattle.std.specs.Prelude.{◌≡◌, ◌+◌, ◌-◌, ◌≤◌, length, drop};
 ghost use Rattle.std.proofs.lemmas.List.Edits.{sets};
 ghost use Rattle.capture.specs.Finding.{packet_length};
@@ -18,7 +20,7 @@ const RUN_BYTES: usize = 1024;
 
 // What a call answers: the place to resume at, the records done, their bytes as written and by how many they were longer, and the bytes passed over. All
 // zeros beside a refusal.
-#[derive(Drop)]
+#[derive(Clone, Copy)]
 pub struct Share {
     pub verdict: Verdict,
     pub resume: usize,
@@ -29,7 +31,7 @@ pub struct Share {
 }
 
 // Records side by side that stay as they are: where they end, and how many they are.
-#[derive(Drop)]
+#[derive(Clone, Copy)]
 struct Run {
     end: usize,
     records: usize,

@@ -1,4 +1,6 @@
 // Many cuts in one call: a list of cut orders on one collector, their packets one behind another (document 02, M-106).
+#![tactic(auto)]
+
 ghost use Rattle.std.specs.Prelude.{◌≡◌, List, ◌++◌, true, false, ℕ, ◌-◌, ◌<◌, ◌≤◌, pos, length, take, drop};
 ghost use Rattle.std.proofs.lemmas.List.Edits.{sets};
 ghost use Rattle.opus_defines.specs.Numbers.{number_of};
@@ -19,7 +21,7 @@ pub const MOST_ORDERS: usize = 48;
 
 // One cut: the frames begin..end, and room for the length of their packet.
 #[repr(C)]
-#[derive(Drop)]
+#[derive(Clone, Copy)]
 pub struct Order {
     pub begin: i32,
     pub end: i32,
@@ -29,7 +31,7 @@ pub struct Order {
 // What the call answers: the bytes of all packets, or the number of a refusal and the position of the order that is refused, from 1. The position is 0
 // in every other answer.
 #[repr(C)]
-#[derive(Drop)]
+#[derive(Clone, Copy)]
 pub struct OrderReport {
     pub number: i32,
     pub position: u32,

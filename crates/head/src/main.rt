@@ -1,4 +1,5 @@
 // Prints the fields of the identification header that standard input holds, a line each.
+#![tactic(auto)]
 
 fn main() {
     // One byte more than the longest header of version 1, and the fields of the other versions stand in no more: what is behind changes no answer.

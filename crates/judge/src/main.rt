@@ -1,4 +1,5 @@
 // Judges the packets of the capture that standard input holds, in ordinary form: a verdict for each record, then the four totals.
+#![tactic(auto)]
 
 fn main() {
     // One byte more than the longest capture: an input that fills the buffer is too long, whatever is behind it.

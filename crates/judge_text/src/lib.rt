@@ -1,4 +1,6 @@
 // The text of the program `judge`: a verdict for each record of a capture, then the four totals, put into a buffer part by part.
+#![tactic(auto)]
+
 ghost use Rattle.std.specs.Prelude.{◌≡◌, false, ◌+◌, ◌≤◌, length};
 ghost use Rattle.std.proofs.lemmas.List.Edits.{sets};
 ghost use Rattle.io.specs.Counts.{IsPrefixLen};
@@ -18,7 +20,7 @@ use packet_judge::{Judged, Tally};
 pub const PART_MOST: usize = 78;
 
 // The bytes put into a buffer, the place from which to go on with the verdicts so far, and whether no record is left.
-#[derive(Drop)]
+#[derive(Clone, Copy)]
 pub struct Lines {
     pub bytes: usize,
     pub next: usize,

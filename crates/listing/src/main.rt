@@ -1,4 +1,5 @@
 // Prints the listing of the one packet that standard input holds.
+#![tactic(auto)]
 
 fn main() {
     // One byte more than the longest packet: an input that fills the buffer is too long, whatever is behind it.

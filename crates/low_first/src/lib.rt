@@ -1,4 +1,6 @@
 // The number of some bytes of a list, low byte first.
+#![tactic(auto)]
+
 ghost use Rattle.std.specs.Prelude.{◌≡◌, ◌+◌, ◌<◌, ◌≤◌, length};
 ghost use Rattle.low_first.specs.Numbers.{number_at};
 

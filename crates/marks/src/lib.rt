@@ -1,4 +1,6 @@
 // The first byte of a mark, 4B (document 02, M-101), sought by words of eight bytes.
+#![tactic(auto)]
+
 ghost use Rattle.std.specs.Prelude.{◌≡◌, List, ℕ, ◌+◌, ◌<◌, ◌≤◌, length, take, drop};
 ghost use Rattle.laws.specs.Bytes.{Bytes};
 ghost use Rattle.bytes.specs.Bytes.{index_of, slice};

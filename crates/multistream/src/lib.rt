@@ -1,5 +1,7 @@
 // Pad and unpad of multistream packets, where they lie (repacketizer.rs). All streams are read before the first is rewritten, and a
 // rewritten stream never reaches an unread byte, since none is longer than it was.
+#![tactic(auto)]
+
 ghost use Rattle.std.specs.Prelude.{◌≡◌, true, ◌+◌, ◌<◌, ◌≤◌, length, take};
 ghost use Rattle.std.proofs.lemmas.List.Edits.{sets};
 ghost use Rattle.opus_defines.specs.Numbers.{report_of};
@@ -15,7 +17,7 @@ use opus_defines::{Answer, Count, Refusal, Report, Verdict};
 use packet_pad::lengths::{Lengths, length_of, lengths_of};
 
 // The bytes of the first streams, or why one of them cannot be read.
-#[derive(Drop)]
+#[derive(Clone, Copy)]
 pub enum Passed {
     Past(usize),
     Stuck(Refusal),
@@ -160,7 +162,7 @@ fn pass_all(data: &[u8], k: usize) -> Passed
 }
 
 // Where the next compact packet goes, and where the next stream to read is.
-#[derive(Drop)]
+#[derive(Clone, Copy)]
 pub struct Places {
     pub to: usize,
     pub from: usize,

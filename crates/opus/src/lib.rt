@@ -1,5 +1,7 @@
 // The packet reader in both delimitings (RFC 6716, sections 3.2 to 3.4 and appendix B): `opus_packet_parse_impl` and
 // `opus_packet_parse` of opus.rs. A packet's frames lie one behind another, so the answer has their lengths and the first one's place.
+#![tactic(auto)]
+
 pub mod code_3;
 pub mod own;
 
@@ -23,7 +25,7 @@ use opus_size::SizeAt;
 pub const MOST_PACKET: usize = 65535;
 
 // What the reader answers: all zeros beside a refusal.
-#[derive(Drop)]
+#[derive(Clone, Copy)]
 pub struct Packet {
     pub verdict: Verdict,
     pub toc: u8,
@@ -35,7 +37,7 @@ pub struct Packet {
 }
 
 // What the reader says beside the lengths, which are lent; zeros beside a refusal.
-#[derive(Drop)]
+#[derive(Clone, Copy)]
 pub struct PacketHead {
     pub verdict: Verdict,
     pub toc: u8,
@@ -256,7 +258,7 @@ pub fn read_packet(data: &[u8], self_delimited: bool, lengths: &mut [u16; 48]) -
 
 // A packet of one or two frames: their lengths, and the place of the first; or the rule that is broken and where. `Counted` is code 3, which
 // `read_into` reads.
-#[derive(Drop)]
+#[derive(Clone, Copy)]
 pub enum Short {
     One(u16, usize),
     Two(u16, u16, usize),

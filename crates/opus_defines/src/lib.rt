@@ -1,5 +1,7 @@
 // The return numbers (opus_defines.rs of the crate, document 01 'Return numbers'), and the only places where a signed number is
 // taken apart or made.
+#![tactic(auto)]
+
 ghost use Rattle.std.specs.Prelude.{◌≡◌, ℕ, ◌+◌, ◌<◌, ◌^◌, pos};
 ghost use Rattle.opus_defines.specs.Numbers.{rule_number, refusal_report, refusal_number, number_of, report_of, verdict_number, verdict_report, count_of};
 ghost use Rattle.opus_defines.specs.Rules.{rule_refusal, shifted};
@@ -9,7 +11,7 @@ ghost use Rattle.opus_defines.specs.declared.Refusal.TheVariants.{Unreadable};
 pub const OPUS_OK: u16 = 0;
 
 // Why a call refuses: one type for the whole project.
-#[derive(Drop)]
+#[derive(Clone, Copy)]
 pub enum Refusal {
     BadArg,
     BufferTooSmall,
@@ -33,7 +35,7 @@ pub enum Refusal {
 
 // What a call answers to C that reads a packet: a count or the refusal's number, and with an unreadable packet the rule, 1 to 8, and the place.
 #[repr(C)]
-#[derive(Drop)]
+#[derive(Clone, Copy)]
 pub struct Report {
     pub number: i32,
     pub rule: u16,
@@ -41,7 +43,7 @@ pub struct Report {
 }
 
 // The rules of RFC 6716, section 3.4, that a packet can break: R1 to R7, and R8 for a bad last length in the self-delimited form.
-#[derive(Drop)]
+#[derive(Clone, Copy)]
 pub enum Rule {
     R1,
     R2,
@@ -54,6 +56,7 @@ pub enum Rule {
 }
 
 // The refusal of a packet that breaks a rule at a place.
+#[tactic(auto, unfolding(crate::specs::Rules::rule_refusal))]
 pub fn rule_refusal(rule: Rule, place: usize) -> Refusal
     requires { place < 65536 }
     ensures { result ≡ rule_refusal rule place }
@@ -98,14 +101,14 @@ pub fn rule_number(rule: Rule) -> u16
 }
 
 // What an answer that is a record says beside its values.
-#[derive(Drop)]
+#[derive(Clone, Copy)]
 pub enum Verdict {
     Accepted,
     Refused(Refusal),
 }
 
 // What a call answers that gives one number. Every count, length and number of samples is below 65,536.
-#[derive(Drop)]
+#[derive(Clone, Copy)]
 pub enum Answer {
     Number(u16),
     Refused(Refusal),
@@ -232,7 +235,7 @@ pub fn wide_byte(x: u8) -> usize
 }
 
 // A signed number taken apart.
-#[derive(Drop)]
+#[derive(Clone, Copy)]
 pub enum Count {
     Is(usize),
     Negative,

@@ -1,4 +1,6 @@
 // The identification header of an Ogg Opus stream (RFC 7845, 5.1; document 02, M-111), read and written.
+#![tactic(auto)]
+
 ghost use Rattle.std.specs.Prelude.{◌≡◌, [], ◌∷◌, ◌+◌, ◌<◌, ◌≤◌, length, take, drop};
 ghost use Rattle.std.proofs.lemmas.List.Edits.{sets};
 ghost use Rattle.opus_defines.specs.Numbers.{report_of};
@@ -14,7 +16,7 @@ pub const LEAST_HEAD: usize = 19;
 
 // The fields of a header. The bytes of family 0 carry no streams, coupled streams and mapping: they are what that family means.
 #[repr(C)]
-#[derive(Drop)]
+#[derive(Clone, Copy)]
 pub struct OpusHead {
     pub version: u8,
     pub channels: u8,
@@ -32,7 +34,7 @@ pub struct OpusHead {
 }
 
 // What `head_read` answers; all zeros beside a refusal.
-#[derive(Drop)]
+#[derive(Clone, Copy)]
 pub struct HeadRead {
     pub verdict: Verdict,
     pub head: OpusHead,

@@ -1,4 +1,6 @@
 // The one header writer: the bytes in front of the frames, for every form that a packet is written in.
+#![tactic(auto)]
+
 ghost use Rattle.std.specs.Prelude.{◌≡◌, cond, ◌+◌, ◌*◌, ◌<◌, ◌≤◌, eqb, length, drop};
 ghost use Rattle.std.proofs.lemmas.List.Edits.{sets};
 ghost use Rattle.opus_size.specs.Size.{most_bytes, length_field, length_fields};
@@ -13,7 +15,7 @@ ghost use Rattle.opus_header.specs.Forms.{compact_form, form_for, front_bytes, h
 use opus_defines::wide;
 
 // What is counted of the lengths before anything is written.
-#[derive(Drop)]
+#[derive(Clone, Copy)]
 pub struct Sums {
     // The frames' bytes, and the bytes of the length fields in front of them.
     pub total: usize,
@@ -23,7 +25,7 @@ pub struct Sums {
 }
 
 // The form of a packet: codes 0 to 2, or code 3 with so many missing bytes.
-#[derive(Drop)]
+#[derive(Clone, Copy)]
 pub enum Form {
     Short,
     Full(usize),

@@ -9,7 +9,7 @@ use opus_defines::{Rule, wide};
 use opus_size::SizeAt;
 
 // The first frame's place in the slice and the sum of the lengths, or the rule that is broken and the place of the field concerned.
-#[derive(Drop)]
+#[derive(Clone, Copy)]
 pub enum FramesAt {
     At(usize, usize),
     Broken(Rule, usize),

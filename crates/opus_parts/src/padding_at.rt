@@ -7,7 +7,7 @@ use opus_defines::wide_byte;
 
 // The padding lengths at the front of a slice: how many padding bytes they say and the place behind them, or that the padding does
 // not fit the slice.
-#[derive(Drop)]
+#[derive(Clone, Copy)]
 pub enum PaddingAt {
     Whole(usize, usize),
     Unfit,

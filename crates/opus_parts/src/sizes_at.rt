@@ -9,7 +9,7 @@ use opus_defines::{wide, wide_byte};
 use opus_size::SizeAt;
 
 // Several length fields at the front of a slice: the place behind them and the sum of the lengths, or the place where they break.
-#[derive(Drop)]
+#[derive(Clone, Copy)]
 pub enum SizesAt {
     All(usize, usize),
     Cut(usize),

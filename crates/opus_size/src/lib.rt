@@ -1,4 +1,6 @@
 // Frame lengths in one or two bytes (RFC 6716, section 3.2.1): `encode_size` and `parse_size` of opus.rs.
+#![tactic(auto)]
+
 ghost use Rattle.std.specs.Prelude.{◌≡◌, ◌+◌, ◌*◌, ◌<◌, ◌≤◌, length};
 ghost use Rattle.std.proofs.lemmas.List.Edits.{sets};
 ghost use Rattle.opus_size.specs.Size.{most_bytes, length_field};
@@ -10,7 +12,7 @@ use opus_defines::{Answer, Count, Refusal, Rule, Verdict};
 pub const MOST_BYTES: usize = 1275;
 
 // A length at a place: the size and the place behind its field, or that the field is not whole.
-#[derive(Drop)]
+#[derive(Clone, Copy)]
 pub enum SizeAt {
     Whole(u16, usize),
     Short,
@@ -40,7 +42,7 @@ pub fn size_at(data: &[u8], at: usize) -> SizeAt
 }
 
 // What `parse_size` answers: the bytes used and the size, both 0 beside a refusal.
-#[derive(Drop)]
+#[derive(Clone, Copy)]
 pub struct Size {
     pub verdict: Verdict,
     pub bytes: usize,

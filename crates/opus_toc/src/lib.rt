@@ -1,4 +1,6 @@
 // The TOC byte (RFC 6716, section 3.1): samples per frame and the frame count, as opus.rs and document 01 have them.
+#![tactic(auto)]
+
 mod table;
 
 ghost use Rattle.std.specs.Prelude.{◌≡◌, [], ◌∷◌, ◌*◌, ◌<◌, ◌≤◌, leb, get_or};
@@ -9,12 +11,12 @@ ghost use Rattle.opus_toc.specs.Answers.{divisor_of, samples_at, samples_per_fra
 use opus_defines::{Answer, Count, Refusal};
 
 // Samples at 48 kHz: what the reader's limit of 120 ms is counted in.
-#[derive(Drop)]
+#[derive(Clone, Copy)]
 pub struct Samples48k(pub u16);
 
 // Samples at 8 kHz: what the collector's limit of 120 ms is counted in.
 #[repr(C)]
-#[derive(Drop)]
+#[derive(Clone, Copy)]
 pub struct Samples8k(pub u16);
 
 fn place(toc: u8) -> usize

@@ -1,4 +1,6 @@
 // The judge of packets (document 02, M-110): unreadable, with rule and place; dirty padding; longer than needed, with the least length; or clean.
+#![tactic(auto)]
+
 ghost use Rattle.std.specs.Prelude.{◌≡◌, ℕ, ◌+◌, ◌<◌, ◌≤◌, ◌^◌, length};
 ghost use Rattle.opus_size.specs.Size.{most_bytes};
 ghost use Rattle.opus_format.specs.Frames.{total, longest};
@@ -10,7 +12,7 @@ use opus::Short;
 use opus_defines::{Refusal, Rule, Verdict, wide};
 
 // What a packet is judged to be.
-#[derive(Drop)]
+#[derive(Clone, Copy)]
 pub enum Judged {
     // It is too long to be looked at.
     Refused(Refusal),
@@ -24,14 +26,14 @@ pub enum Judged {
 }
 
 // A verdict, and the bytes of the compact packet; of one that cannot be read, or is too long, its own.
-#[derive(Drop)]
+#[derive(Clone, Copy)]
 pub struct Weighed {
     pub verdict: Judged,
     pub least: usize,
 }
 
 // How many verdicts of each kind there were.
-#[derive(Drop)]
+#[derive(Clone, Copy)]
 pub struct Tally {
     pub unreadable: usize,
     pub dirty: usize,

@@ -1,4 +1,6 @@
 // For each frame held the number of the accepted packet that it came in (document 02, M-107): looked at, and given to new frames.
+#![tactic(auto)]
+
 ghost use Rattle.std.specs.Prelude.{◌≡◌, ◌-◌, ◌*◌, ◌%◌, ◌<◌, ◌≤◌, length, replicate, nat_le, slice_index};
 ghost use Rattle.std.proofs.lemmas.List.Edits.{sets};
 ghost use Rattle.opus_format.specs.Frames.{total};
@@ -8,7 +10,7 @@ pub mod words;
 
 // What one pass over lengths and numbers finds: the sum of the lengths modulo 65,536, and a number that is above 1 exactly where they are not those of a
 // sound collector.
-#[derive(Drop)]
+#[derive(Clone, Copy)]
 pub struct Looked {
     pub total: u16,
     pub wrong: u16,

@@ -5,7 +5,7 @@ ghost use Rattle.packet_pad.specs.Lengths.{length_of, lengths_of};
 use opus_defines::Count;
 
 // What the packet's length and the new one ask for: a refusal, nothing, or a packet of the first length padded to the second.
-#[derive(Drop)]
+#[derive(Clone, Copy)]
 pub enum Lengths {
     Bad,
     Same,

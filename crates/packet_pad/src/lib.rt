@@ -1,5 +1,7 @@
 // Pad and unpad, where the packet lies (repacketizer.rs): the packet is read, then refused or rewritten, so that a refusal leaves every byte.
 // A rewrite moves the block of frames, then writes the header in front of it and zeros behind it.
+#![tactic(auto)]
+
 pub mod lengths;
 
 ghost use Rattle.std.specs.Prelude.{◌≡◌, false, ◌+◌, ◌<◌, ◌≤◌, length, take, drop};

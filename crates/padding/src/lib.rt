@@ -1,4 +1,6 @@
 // Padding bytes of a packet (RFC 6716, section 3.2.5): whether one of them is not zero (document 02, M-105).
+#![tactic(auto)]
+
 ghost use Rattle.std.specs.Prelude.{◌≡◌, true, cond, ◌≤◌, max, eqb, length};
 ghost use Rattle.opus_format.specs.Frames.{longest};
 ghost use Rattle.opus_format.specs.Dirt.{dirty, dirty_packet};

@@ -1,4 +1,6 @@
 // Adding packets to a collector (repacketizer.rs): by value, and as a head with its lengths and numbers lent.
+#![tactic(auto)]
+
 pub mod strict;
 
 ghost use Rattle.std.specs.Prelude.{◌≡◌, [], ◌∷◌, false, ◌+◌, ◌<◌, ◌≤◌, length};
@@ -18,7 +20,7 @@ use opus_defines::{Answer, Refusal, Verdict, wide};
 use opus_toc::Samples8k;
 
 // What an add answers: beside a refusal the collector is the one handed in.
-#[derive(Drop)]
+#[derive(Clone, Copy)]
 pub struct Added {
     pub verdict: Verdict,
     pub rp: OpusRepacketizer,
@@ -107,7 +109,7 @@ fn put_lengths(len: &mut [u16], at: usize, ns: &[u16])
 }
 
 // What an add answers where the lengths are lent. The count is no `u16`: a struct of eight bytes is kept in one register and taken apart by shifts.
-#[derive(Drop)]
+#[derive(Clone, Copy)]
 pub struct AddedHead {
     pub verdict: Verdict,
     pub toc: u8,

@@ -7,7 +7,7 @@ use collector::OpusRepacketizer;
 use opus_defines::{Count, wide};
 
 // A range of frames, as an output takes it: 0 and 0 where there is none.
-#[derive(Drop)]
+#[derive(Clone, Copy)]
 pub struct Range {
     pub begin: i32,
     pub end: i32,

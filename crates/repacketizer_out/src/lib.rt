@@ -1,4 +1,6 @@
 // Output of a range of the frames that a collector holds (repacketizer.rs).
+#![tactic(auto)]
+
 pub mod by_number;
 
 ghost use Rattle.std.specs.Prelude.{◌≡◌, ◌++◌, true, false, ◌+◌, ◌≤◌, pos, length, drop};

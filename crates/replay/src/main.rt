@@ -1,6 +1,8 @@
 // Answers cases of the replay protocol, read from standard input, through the public calls: binary in, a line of text for each case out.
 // The buffers have a fixed size, however long the input is. A line is built in the output buffer, which has room for the longest, so that a
 // case that turns out to be cut short can take back what it has put there.
+#![tactic(auto)]
+
 use replay_collector::{collect_case, packet_case, places_case, range_case};
 use replay_io::input::{Cursor, Line, NumberAt, Taken, fields, one};
 use replay_io::output::{Flush, flushed, put, text, written};
@@ -85,7 +87,7 @@ fn case(
 }
 
 // A turn: whether the program goes on, and where the input and the output do.
-#[derive(Drop)]
+#[derive(Clone, Copy)]
 struct Turn {
     on: bool,
     next: Cursor,

@@ -14,7 +14,7 @@ pub const ADD: u64 = 0xEB00000000;
 pub const EITHER_ADD: u64 = 0x1B00000000;
 
 // Between two adds: whether the case is whole so far, where the input and the output go on, the collector, and how many bytes its store has.
-#[derive(Drop)]
+#[derive(Clone, Copy)]
 pub struct Adding {
     pub whole: bool,
     pub next: Cursor,

@@ -1,5 +1,7 @@
 // Kinds 2 and 17 to 20 of the replay protocol: an empty collector, adds, and the output of a range; any collector, and adds with rule and place; the same
 // with packet numbers, and the output of a packet by its number; the frames held, the output of a range, and an add.
+#![tactic(auto)]
+
 mod adds;
 pub mod state;
 

@@ -15,7 +15,7 @@ pub const NUMBERED_FRAME: u64 = 0x2100000000;
 const STORE: u64 = 0xAB00000000;
 
 // The collector, how many bytes its store has, and where the input goes on, if the case is whole so far.
-#[derive(Drop)]
+#[derive(Clone, Copy)]
 pub struct State {
     pub whole: bool,
     pub behind: Cursor,

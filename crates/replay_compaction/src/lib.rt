@@ -1,4 +1,6 @@
 // Kinds 25 and 26 of the replay protocol: a share of compaction, and the chooser of the shorter spelling.
+#![tactic(auto)]
+
 use compaction::Share;
 use opus_defines::{OPUS_OK, verdict_number};
 use replay_io::output::{buffer, field, number, put};

@@ -1,4 +1,6 @@
 // Kinds 27 and 28 of the replay protocol: an identification header read, and written.
+#![tactic(auto)]
+
 use opus_defines::{OPUS_OK, verdict_number};
 use opus_head::{HeadRead, OpusHead};
 use replay_io::input::{low_8, low_16};

@@ -1,11 +1,13 @@
 // Kinds 3 to 6 and 13 to 16 of the replay protocol: pad and unpad, in place, of packets and of multistream packets. The first four lend the packet, with
 // zeros behind it up to the new length, and tell a number; the others lend a buffer, give lengths of any value, and tell rule and place too.
+#![tactic(auto)]
+
 use opus_defines::{Answer, Report};
 use replay_io::input::signed;
 use replay_io::output::{number_and_buffer, report_and_buffer};
 
 // What a case asks for: the numbers of the call, the bytes given, and how many are lent.
-#[derive(Drop)]
+#[derive(Clone, Copy)]
 struct Asked {
     streams: i32,
     len: i32,

@@ -11,7 +11,7 @@ pub const MOST: usize = 65536;
 const COUNTED: usize = 4611686018427387904;
 
 // The bytes of the input buffer that are read and not used yet, and how many bytes have come so far.
-#[derive(Drop)]
+#[derive(Clone, Copy)]
 pub struct Cursor {
     pub at: usize,
     pub end: usize,
@@ -19,21 +19,21 @@ pub struct Cursor {
 }
 
 // A number of a case, and where the input goes on behind it.
-#[derive(Drop)]
+#[derive(Clone, Copy)]
 pub enum NumberAt {
     Is(usize, Cursor),
     Cut,
 }
 
 // Where the input goes on behind some fields.
-#[derive(Drop)]
+#[derive(Clone, Copy)]
 pub enum Taken {
     Whole(Cursor),
     Cut,
 }
 
 // A case that was answered: where the input and the output go on.
-#[derive(Drop)]
+#[derive(Clone, Copy)]
 pub enum Line {
     Is(Cursor, usize),
     Malformed,

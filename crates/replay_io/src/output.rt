@@ -127,7 +127,7 @@ pub fn written(out: &[u8], at: usize) -> bool {
 }
 
 // Where the output goes on, unless it could not be written.
-#[derive(Drop)]
+#[derive(Clone, Copy)]
 pub enum Flush {
     To(usize),
     Failed,

@@ -1,4 +1,6 @@
 // Kind 21 of the replay protocol: a list of cut orders on a collector, into one destination.
+#![tactic(auto)]
+
 ghost use Rattle.std.specs.Prelude.{◌≤◌};
 
 use collector::{Head, OpusRepacketizer};
@@ -19,7 +21,7 @@ const ORDER: u64 = 0x4400000000;
 // ---- the orders of a case
 
 // The orders, if the case is whole so far, and where the input goes on.
-#[derive(Drop)]
+#[derive(Clone, Copy)]
 struct Listed {
     whole: bool,
     behind: Cursor,
@@ -65,7 +67,7 @@ fn list_at(input: &mut [u8], c: Cursor, work: &mut [u8], n: usize) -> Listed {
 // ---- the call
 
 // What it answers, and the list behind it.
-#[derive(Drop)]
+#[derive(Clone, Copy)]
 struct Answered {
     report: OrderReport,
     list: [Order; 255],

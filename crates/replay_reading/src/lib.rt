@@ -1,4 +1,6 @@
 // Kinds 1, 7 to 12 and 24 of the replay protocol: the packet reader, length fields, the TOC byte and the judge.
+#![tactic(auto)]
+
 use opus::Packet;
 use opus_defines::{Report, Rule, Verdict, rule_number, wide};
 use opus_size::Size;

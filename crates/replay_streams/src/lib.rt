@@ -1,4 +1,6 @@
 // Kinds 22 and 23 of the replay protocol: packets joined into one multistream packet, and a stream taken out of one.
+#![tactic(auto)]
+
 use replay_io::input::{Cursor, Line, Taken, fields, low_16, signed};
 use replay_io::output::report_and_buffer;
 use replay_io::room::unset;

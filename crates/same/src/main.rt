@@ -1,5 +1,7 @@
 // Sees whether the capture on descriptor 3 says what the one on standard input says, record by record, both of any size: the second has records one right
 // behind another and nothing else. It says so in one line, the last word of which is `end`; where they differ, how many records were the same.
+#![tactic(auto)]
+
 ghost use Rattle.std.specs.Prelude.{◌≡◌, ◌≤◌, length};
 ghost use Rattle.capture.specs.Reading.{records_of};
 ghost use Rattle.same.specs.Looking.{Looked};
@@ -17,7 +19,7 @@ const NEW_FILE: i32 = 3;
 
 // How a part of the original was found in the new file: whether that could be read, whether all of it is the same, the records that are, and the bytes of the
 // new file that are held and not yet looked at.
-#[derive(Drop)]
+#[derive(Clone, Copy)]
 struct Match {
     ok: bool,
     same: bool,

@@ -1,5 +1,7 @@
 // Whether a rewritten capture says what the original says, record by record: the same lines, and packets with the same frames and upper six TOC bits, or the
 // very bytes, where a packet cannot be read (beyond document 02). Nothing here writes a packet: it is a second look, at what compaction wrote.
+#![tactic(auto)]
+
 ghost use Rattle.std.specs.Prelude.{◌≡◌, length, take, ℕ, ◌≤◌, max, true};
 ghost use Rattle.capture.specs.Reading.{records_of};
 ghost use Rattle.compaction.specs.Lossless.{Same};
@@ -9,7 +11,7 @@ use capture::HEAD_BYTES;
 use opus_defines::Verdict;
 
 // What was seen of a part: whether all its records were found the same, how many were, and the bytes of the new file that these take.
-#[derive(Drop)]
+#[derive(Clone, Copy)]
 pub struct Seen {
     pub all: bool,
     pub records: usize,

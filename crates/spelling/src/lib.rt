@@ -1,4 +1,6 @@
 // The shorter of a packet's two spellings (document 02, M-103): the compact packet, or the packet as it is.
+#![tactic(auto)]
+
 ghost use Rattle.std.specs.Prelude.{◌≡◌, true, false, ◌+◌, ◌≤◌, length, get_or, drop};
 ghost use Rattle.opus_size.specs.Size.{most_bytes};
 ghost use Rattle.opus_toc.specs.Toc.{code, upper_six};
@@ -11,7 +13,7 @@ ghost use Rattle.spelling.specs.Spelling.{spelling_of, spelling, compact_of, sho
 use opus_defines::{Verdict, wide_byte};
 
 // Which spelling is taken: the packet's own, or the compact one, of so many bytes.
-#[derive(Drop)]
+#[derive(Clone, Copy)]
 pub enum Spelling {
     Original,
     Compact(usize),

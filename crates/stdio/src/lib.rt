@@ -1,5 +1,7 @@
 // Standard input and output of the programs. A read that failed is told from the end of the input, and a write that failed from one that was
 // made: a line on standard error says so, where nothing else is ever written. A program has no exit status; the launcher looks at that line.
+#![tactic(auto)]
+
 ghost use Rattle.std.specs.Prelude.{◌≡◌, ◌<◌, ◌≤◌, length};
 ghost use Rattle.std.proofs.lemmas.List.Edits.{sets};
 ghost use Rattle.io.specs.Counts.{IsPrefixLen};
@@ -13,7 +15,7 @@ use libc::{STDERR_FILENO, STDIN_FILENO, STDOUT_FILENO};
 const TRIES: usize = 8;
 
 // What a read gave.
-#[derive(Drop)]
+#[derive(Clone, Copy)]
 pub enum Got {
     Bytes(usize),
     End,
@@ -21,7 +23,7 @@ pub enum Got {
 }
 
 // What came, and whether that is all of the input, or as much as there is room for.
-#[derive(Drop)]
+#[derive(Clone, Copy)]
 pub struct Input {
     pub ok: bool,
     pub bytes: usize,

@@ -1,4 +1,6 @@
 // Ordinary packets joined into one multistream packet, and a stream taken out of one (document 02, M-108). All is read before the first byte is written.
+#![tactic(auto)]
+
 ghost use Rattle.std.specs.Prelude.{◌≡◌, true, false, ◌&&◌, ◌+◌, ◌*◌, ◌<◌, ◌≤◌, eqb, length};
 ghost use Rattle.std.proofs.lemmas.List.Edits.{sets};
 ghost use Rattle.opus_defines.specs.Numbers.{report_of};
@@ -15,7 +17,7 @@ use opus_defines::{Answer, Count, Refusal, Report, Verdict, wide};
 // ---- one packet or stream
 
 // The bytes that it takes, how long it lasts in samples at 48 kHz, and the bytes of its compact packet; or why it cannot be read.
-#[derive(Drop)]
+#[derive(Clone, Copy)]
 pub enum Look {
     Reads(usize, u32, usize),
     Unread(Refusal),
@@ -57,7 +59,7 @@ fn put_stream(data: &[u8], self_delimited: bool, dst: &mut [u8], compact_delimit
 // ---- all of them
 
 // What is known of those so far: the first one's time, whether all last so long, and the bytes of their compact packets.
-#[derive(Drop)]
+#[derive(Clone, Copy)]
 pub struct Tally {
     pub time: u32,
     pub equal: bool,
@@ -65,7 +67,7 @@ pub struct Tally {
 }
 
 // The bytes needed, or why there are none.
-#[derive(Drop)]
+#[derive(Clone, Copy)]
 pub enum Survey {
     Needs(usize),
     Unequal,

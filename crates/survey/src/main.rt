@@ -1,4 +1,6 @@
 // Counts what a capture of any size on standard input holds, and says it in one line, the last word of which is `end`.
+#![tactic(auto)]
+
 ghost use Rattle.std.specs.Prelude.{◌≡◌, length};
 
 use capture_survey::Survey;

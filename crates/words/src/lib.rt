@@ -1,4 +1,6 @@
 // Numbers in the words that a program is started with.
+#![tactic(auto)]
+
 ghost use Rattle.std.specs.Prelude.{◌≡◌};
 ghost use Rattle.words.specs.Decimal.{no_number, number_in};
 
@@ -7,7 +9,7 @@ use opus_defines::wide_byte;
 // A number is less than ten times this: it fits, and so do sums of some.
 const TENTH: usize = 100000000000000000;
 
-#[derive(Drop)]
+#[derive(Clone, Copy)]
 pub struct Number {
     pub ok: bool,
     pub value: usize,
