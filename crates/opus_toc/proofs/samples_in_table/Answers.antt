@@ -1,5 +1,5 @@
 -- `opus_toc::samples_in_table` meets its contract: the table's rule is one test at all 256 TOC bytes, which antt computes.
--- Assumes nothing.
+-- the table: a row of eight TOC bytes for each configuration
 use mathlib.Core.Path.{refl, ap, ◌∙◌}
 use Prim.Native.Nat.{ℕ}
 use mathlib.Core.List.{List, [], ◌∷◌, ◌++◌}
@@ -7,9 +7,10 @@ use lib.ListN.{replicate}
 use borrow.Author.Rules.{rules}
 use Rattle.opus_toc.specs.Toc.{configuration, duration, samples}
 use Rattle.opus_toc.proofs.Samples.{table_rule}
-use Rattle.opus_toc.proofs.samples_in_table.Statement.{statement}
-use Rattle.opus_toc.proofs.samples_in_table.Tie as tie
+use Rattle.opus_toc.proofs.samples_in_table.Goals as goal
 
+-- `opus_toc::samples_in_table` meets its contract: the table's rule is one test at all 256 TOC bytes, which antt computes.
+-- Assumes nothing.
 -- the table: a row of eight TOC bytes for each configuration
 eightfold : List ℕ → List ℕ
 eightfold [] = []
@@ -21,9 +22,7 @@ table =
     (480 ∷ 960 ∷ 1920 ∷ 2880 ∷ 480 ∷ 960 ∷ 1920 ∷ 2880 ∷ 480 ∷ 960 ∷ 1920 ∷ 2880 ∷ 480 ∷ 960 ∷ 480 ∷ 960 ∷
     120 ∷ 240 ∷ 480 ∷ 960 ∷ 120 ∷ 240 ∷ 480 ∷ 960 ∷ 120 ∷ 240 ∷ 480 ∷ 960 ∷ 120 ∷ 240 ∷ 480 ∷ 960 ∷ [])
 
-returns : tie.Need-returns
+pub returns : goal.returns
 unfolding samples duration table eightfold
-returns c = table_rule table refl c.place.result c.place.ensures.1 ∙ ap (λ (t : ℕ). samples 48000 (configuration t)) c.place.ensures.0
-
-pub samples-in-table-spec : {M : Type 1} → statement M
-samples-in-table-spec = tie.close (tie.spec (λ c κs. search rules) (λ c. search rules) (λ c. search rules) returns)
+returns c =
+    table_rule table refl c.place-i.result c.place-i.ensures.1 ∙ ap (λ (t : ℕ). samples 48000 (configuration t)) c.place-i.ensures.0

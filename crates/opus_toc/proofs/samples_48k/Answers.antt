@@ -1,6 +1,7 @@
 -- `opus_toc::samples_48k` meets its contract: each arm names the configurations that have its samples, and one test at all 32 says that
 -- the last arm has the rest.
--- Assumes nothing.
+-- the configuration is the upper five bits
+-- the configurations of each arm, by the duration in ms
 use Prim.Native.Nat.{ℕ, ◌/◌, ◌<◌}
 use native.Mathlib.Omega.{arith}
 use mathlib.Core.Path.{◌≡◌, refl}
@@ -13,9 +14,11 @@ use borrow.Author.Tests.{eqb-true}
 use Rattle.laws.proofs.Every.{every_at}
 use Rattle.opus_toc.specs.Toc.{configuration, duration, samples}
 use Rattle.opus_toc.proofs.Keys.{AllOf, key_holds, no_key}
-use Rattle.opus_toc.proofs.samples_48k.Statement.{statement}
-use Rattle.opus_toc.proofs.samples_48k.Tie as tie
+use Rattle.opus_toc.proofs.samples_48k.Goals as goal
 
+-- `opus_toc::samples_48k` meets its contract: each arm names the configurations that have its samples, and one test at all 32 says that
+-- the last arm has the rest.
+-- Assumes nothing.
 abbrev Has : ℕ → ℕ → Type 0
 Has n c = n ≡ samples 48000 c
 
@@ -41,7 +44,6 @@ ms40 = 2 ∷ 6 ∷ 10 ∷ []
 
 abbrev ms60 : List ℕ
 ms60 = 3 ∷ 7 ∷ 11 ∷ []
-
 module _ (c : ℕ) where
   others : (OneOf ms2½ c → ⊥) → (OneOf ms5 c → ⊥) → (OneOf ms10 c → ⊥) → (OneOf ms40 c → ⊥) → (OneOf ms60 c → ⊥) → c < 32
       → Has 960 c
@@ -51,31 +53,31 @@ module _ (c : ℕ) where
       every_at 32 (λ k. has_key ms2½ k || (has_key ms5 k || (has_key ms10 k || (has_key ms40 k || (has_key ms60 k || eqb 960 (samples 48000 k)))))) refl c h in
       eqb-true 960 (samples 48000 c) (rw (no_key ms2½ c a, no_key ms5 c b, no_key ms10 c d, no_key ms40 c e, no_key ms60 c f) at t)
 
-returns : tie.Need-returns
+pub returns-in-16 : goal.returns-in-16
 unfolding samples duration
-returns c = arm 120 c.before.args.toc ms2½ (refl, (refl, (refl, (refl, tt)))) c.match.keys1
+returns-in-16 c =
+    arm 120 c.args.toc ms2½ (refl, (refl, (refl, (refl, tt)))) c.in-16.is
 
-returns-2 : tie.Need-returns-2
+pub returns-in-17 : goal.returns-in-17
 unfolding samples duration
-returns-2 c = arm 240 c.before.args.toc ms5 (refl, (refl, (refl, (refl, tt)))) c.match.keys2
+returns-in-17 c =
+    arm 240 c.args.toc ms5 (refl, (refl, (refl, (refl, tt)))) c.in-17.is
 
-returns-3 : tie.Need-returns-3
+pub returns-in-0 : goal.returns-in-0
 unfolding samples duration
-returns-3 c = arm 480 c.before.args.toc ms10 (refl, (refl, (refl, (refl, (refl, (refl, (refl, (refl, (refl, tt))))))))) c.match.keys3
+returns-in-0 c =
+    arm 480 c.args.toc ms10 (refl, (refl, (refl, (refl, (refl, (refl, (refl, (refl, (refl, tt))))))))) c.in-0.is
 
-returns-4 : tie.Need-returns-4
+pub returns-in-2 : goal.returns-in-2
 unfolding samples duration
-returns-4 c = arm 1920 c.before.args.toc ms40 (refl, (refl, (refl, tt))) c.match.keys4
+returns-in-2 c =
+    arm 1920 c.args.toc ms40 (refl, (refl, (refl, tt))) c.in-2.is
 
-returns-5 : tie.Need-returns-5
+pub returns-in-3 : goal.returns-in-3
 unfolding samples duration
-returns-5 c = arm 2880 c.before.args.toc ms60 (refl, (refl, (refl, tt))) c.match.keys5
+returns-in-3 c =
+    arm 2880 c.args.toc ms60 (refl, (refl, (refl, tt))) c.in-3.is
 
-returns-6 : tie.Need-returns-6
-returns-6 c =
-    let toc = c.before.args.toc in
-    let n = c.match.rest in
-    at-toc 960 toc (others (toc / 8) n.0.0.0.0.1 n.0.0.0.1 n.0.0.1 n.0.1 n.1 (omega (arith, c.before.ranges.toc)))
-
-pub samples-48k-spec : {M : Type 1} → statement M
-samples-48k-spec = tie.close (tie.spec returns returns-2 returns-3 returns-4 returns-5 returns-6)
+pub returns-in_default : goal.returns-in_default
+returns-in_default c =
+    at-toc 960 c.args.toc (others (c.args.toc / 8) c.in_default.in_default-own.rest.0.0.0.0.1 c.in_default.in_default-own.rest.0.0.0.1 c.in_default.in_default-own.rest.0.0.1 c.in_default.in_default-own.rest.0.1 c.in_default.in_default-own.rest.1 (omega (arith, c.ranges.toc)))
