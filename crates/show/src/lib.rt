@@ -6,7 +6,10 @@ ghost use Rattle.std.proofs.lemmas.List.Edits.{sets};
 ghost use Rattle.io.specs.Counts.{IsPrefixLen};
 ghost use Rattle.show.specs.Text.{decimal as Text·decimal, integer, number_line, refusal};
 
-use libc::STDOUT_FILENO;
+// The descriptors of standard output and of standard error.
+pub const STDOUT_FILENO: i32 = 1;
+
+pub const STDERR_FILENO: i32 = 2;
 
 pub fn text(s: &[u8]) {
     io::write_all(STDOUT_FILENO, s);

@@ -8,7 +8,8 @@ ghost use Rattle.io.specs.Counts.{IsPrefixLen};
 ghost use Rattle.stdio.specs.Reading.{GotIn};
 ghost use Rattle.stdio.specs.Failures.{read_failed};
 
-use libc::{STDERR_FILENO, STDIN_FILENO, STDOUT_FILENO};
+use show::{STDERR_FILENO, STDOUT_FILENO};
+use std::io::{Read, Stdin};
 
 // How often a read that failed is made again before it counts as failed. A program cannot see why it failed: one that a signal interrupted
 // goes on, and one that fails for a reason fails so often.
@@ -30,38 +31,37 @@ pub struct Input {
 }
 
 // Reads once behind what is held. There is room, so that no byte is the end of the input.
-fn read_once(fd: i32, buf: &mut [u8], held: usize) -> Got
+fn read_once<R: Read>(from: &mut R, buf: &mut [u8], held: usize) -> Got
     requires { held < length buf.old }
     ensures length { length buf.new ≡ length buf.old }
     ensures got { GotIn (length buf.old) held result }
 {
-    let part = &mut buf[held..];
-    let got = libc::read(fd, part);
-    if got < 0 {
-        return Got::Failed;
+    match from.read(&mut buf[held..]) {
+        Ok(n) => {
+            if n == 0 {
+                return Got::End;
+            }
+            Got::Bytes(n)
+        }
+        Err(_) => Got::Failed,
     }
-    let n = io::count(got, part);
-    if n == 0 {
-        return Got::End;
-    }
-    Got::Bytes(n)
 }
 
 // The same, tried again where it failed.
-pub fn read_more(fd: i32, buf: &mut [u8], held: usize) -> Got
+pub fn read_more<R: Read>(from: &mut R, buf: &mut [u8], held: usize) -> Got
     requires { held < length buf.old }
     ensures length { length buf.new ≡ length buf.old }
     ensures got { GotIn (length buf.old) held result }
 {
     let mut left: usize = TRIES;
     while 0 < left {
-        let got = read_once(fd, buf, held);
+        let got = read_once(from, buf, held);
         let Got::Failed = got else {
             return got;
         };
         left -= 1;
     }
-    read_once(fd, buf, held)
+    read_once(from, buf, held)
 }
 
 // The line on standard error for a read that failed when n bytes had come.
@@ -82,7 +82,7 @@ pub fn tell_read_failed(n: usize) {
 }
 
 // Reads behind what is held until the buffer is full or the input ends: it ends where the buffer is not full then, and no read failed.
-pub fn read_on(fd: i32, buf: &mut [u8], start: usize) -> Input
+pub fn read_on<R: Read>(from: &mut R, buf: &mut [u8], start: usize) -> Input
     requires { start ≤ length buf.old }
     ensures length { length buf.new ≡ length buf.old }
     ensures more { start ≤ result.bytes }
@@ -90,7 +90,7 @@ pub fn read_on(fd: i32, buf: &mut [u8], start: usize) -> Input
 {
     let mut held = start;
     while held < buf.len() {
-        let got = read_more(fd, buf, held);
+        let got = read_more(from, buf, held);
         match got {
             Got::Bytes(n) => {
                 held += n;
@@ -116,10 +116,10 @@ pub fn read_on(fd: i32, buf: &mut [u8], start: usize) -> Input
 }
 
 // The same of standard input, from the front of a buffer; where that fails it is told.
-pub fn read_all(buf: &mut [u8]) -> Input
+pub fn read_all(from: &mut Stdin, buf: &mut [u8]) -> Input
     ensures { IsPrefixLen result.bytes buf.new }
 {
-    let input = read_on(STDIN_FILENO, buf, 0);
+    let input = read_on(from, buf, 0);
     if !input.ok {
         tell_read_failed(input.bytes);
     }
