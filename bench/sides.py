@@ -111,7 +111,8 @@ def compiler():
 
 def kit_clang():
     kit = Path(tool("rt", "the Rattle kit has it")).resolve().parent.parent
-    clang = kit / "on" / platform.machine() / "toolchain" / "bin" / "clang"
+    tools = kit / "on" / platform.machine() / "toolchain"
+    clang = (tools if tools.exists() else kit / "toolchain") / "bin" / "clang"
     if not clang.exists():
         stop(f"no clang in the Rattle kit for {platform.machine()}")
     return clang
