@@ -11,7 +11,7 @@ use lib.ListN.{length, get_or, take, drop, length-drop}
 use lib.Seq.{get_or-drop, drop-cons, drop-length, drop-drop, take-length}
 use lib.Dec.{leb, eqb}
 use borrow.Author.Tests.{le-leb, lt-leb, leb-true, eq-eqb, ne_eqb, eqb-true, eqb-false, le-ltb, lt-ltb}
-use Rattle.bytes.specs.Bytes.{slice, index_after, index_of}
+use Rattle.laws.specs.Scan.{slice, index_of}
 use Rattle.opus_defines.specs.declared.Refusal.TheVariants.{BadArg}
 use Rattle.capture.specs.Finding.{Record}
 use Rattle.capture.specs.Finding.{length_in, packet_length, packet_at, before, record_from, no_record, with_passed, next_record}
@@ -97,7 +97,7 @@ before_le (b ∷ l) = before_le_if b l (eqb (packet_length (b ∷ l)) 0) refl (b
 -- bytes that are not the first of a mark are all passed over
 before_skip_if : (b : ℕ) (l : List ℕ) (t : Bool) → eqb b 0x4B ≡ t → before l ≡ index_of 0x4B l + before (drop (index_of 0x4B l) l)
     → before (b ∷ l) ≡ index_of 0x4B (b ∷ l) + before (drop (index_of 0x4B (b ∷ l)) (b ∷ l))
-unfolding index_of index_after
+unfolding index_of
 before_skip_if b l true e h = simp e (omega arith)
 before_skip_if b l false e h =
     let none : packet_length (b ∷ l) ≡ 0 = length_first (b ∷ l) 0 (eqb-false b 0x4B e) in

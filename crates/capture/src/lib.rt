@@ -75,6 +75,7 @@ fn record_at(data: &[u8], at: usize) -> usize
 //
 // The loop asks by itself, and up to the last place that has bytes enough for a head: so a byte costs two tests, and no bound is asked twice.
 #[cycle(record_at_seek_mark)]
+#[tactic(auto, using(crate::proofs::Depth::seeking))]
 fn seek_mark(data: &[u8], at: usize) -> usize
     requires { at ≤ length «data».now }
     ensures { result ≡ (record_from «data».now at).place }

@@ -80,3 +80,6 @@ module _ {old : List ℕ} {done held : ℕ} (w : Reads old done held) (left : do
     pub reads_on : {kept : List ℕ} → length kept ≡ length buf → {k : ℕ} → k ≡ r.held - r.bytes → Reads kept (done + r.bytes) k
     reads_on long is =
         record { long = omega (arith, w.long); few = omega (arith, part_moves buf r p e); far = omega (arith, part-short) }
+
+-- what the goals of `read_part` need
+pub ruleset read_parts = (last-part, settled-part)

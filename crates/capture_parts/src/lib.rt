@@ -1,9 +1,11 @@
-// A capture of any size on a descriptor, read part by part: each part can be read as a capture of its own (crate capture_window).
+// A capture of any size, read part by part: each part can be read as a capture of its own (crate capture_window).
 #![tactic(auto)]
 
 ghost use Rattle.std.specs.Prelude.{◌≡◌, ◌-◌, ◌≤◌, length};
 ghost use Rattle.blocks.specs.Blocks.{moved};
 ghost use Rattle.capture_parts.specs.Part.{FilledIn, PartOf};
+
+use std::io::Read;
 
 // What a buffer holds that was filled: whether no read failed, whether the file ends with it, and how many bytes.
 #[derive(Clone, Copy)]
@@ -14,12 +16,12 @@ pub struct Filled {
 }
 
 // Reads behind what is held until the buffer is full or the file ends.
-pub fn fill(fd: i32, buf: &mut [u8], held: usize) -> Filled
+pub fn fill<R: Read>(from: &mut R, buf: &mut [u8], held: usize) -> Filled
     requires { held ≤ length buf.old }
     ensures length { length buf.new ≡ length buf.old }
     ensures filled { FilledIn buf.new result }
 {
-    let input = stdio::read_on(fd, buf, held);
+    let input = stdio::read_on(from, buf, held);
     let ok = input.ok;
     let n = input.bytes;
     Filled {
@@ -39,12 +41,13 @@ pub struct Part {
 }
 
 // Fills the buffer, and says how much of what is then held is a part: all of it at the end, before as much as is settled.
-pub fn read_part(fd: i32, buf: &mut [u8], held: usize) -> Part
+#[tactic(auto, using(crate::proofs::Told::read_parts))]
+pub fn read_part<R: Read>(from: &mut R, buf: &mut [u8], held: usize) -> Part
     requires { held ≤ length buf.old }
     ensures length { length buf.new ≡ length buf.old }
     ensures part { PartOf buf.new result }
 {
-    let f = fill(fd, buf, held);
+    let f = fill(from, buf, held);
     let ok = f.ok;
     let n = f.held;
     if f.last {

@@ -170,3 +170,6 @@ module _ (s : List ℕ) (at : ℕ) (reached : Reaches s at) where
           omega (arith, there.same, settled-short (drop q s) none (omega (arith, length-drop q s))))
           (λ t. let few = leb-false window (length s - at) t in
           omega (arith, reached.same, settled-short (drop at s) (sym of ∙ z) (omega (arith, length-drop at s))))
+
+-- what the goals of `settled` need
+pub ruleset settling = (reaches_start, record_within, reaches_behind, place_le, reaches_next, next_on, reaches_end)

@@ -27,6 +27,7 @@ pub fn short_from(held: usize, at: usize) -> usize
 }
 
 // How many bytes at the front of what is held are settled: they can be read as a capture of their own, and what is behind them as one with what follows.
+#[tactic(auto, using(crate::proofs::Settling::settling))]
 pub fn settled(data: &[u8]) -> usize
     ensures { result ≡ Window·settled «data».now }
 {
