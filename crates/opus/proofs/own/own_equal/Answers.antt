@@ -1,0 +1,28 @@
+-- `opus::own::own_equal` meets its contract: the frames say their one length.
+-- the length field
+use mathlib.Core.Path.{sym, ◌∙◌}
+use borrow.Author.Rules.{rules}
+use Rattle.opus_size.proofs.At.{Found, whole_was, short_was}
+use Rattle.opus.proofs.AtOwn.{own_equal-cut, own_equal-over, own_equal-fits}
+use Rattle.opus.proofs.own.own_equal.Goals as goal
+use Rattle.opus.proofs.own.own_equal.Goals.{In-Whole}
+
+-- the length field
+found : (c : In-Whole) → Found c.args.«data».now 1 c.in-Whole.n c.in-Whole.first
+found c = whole_was _ _ _ _ (sym c.size_at-size.ensures ∙ c.in-Whole.is)
+
+pub returns-in_default : goal.returns-in_default
+returns-in_default c =
+    own_equal-cut c.args.«data».now c.requires.0 c.requires.1 (short_was _ _ (sym c.size_at-size.ensures ∙ c.in_default.is))
+
+pub overflow_sub-data : goal.overflow_sub-data
+overflow_sub-data c =
+    (found c).within
+
+pub returns-then-data-first : goal.returns-then-data-first
+returns-then-data-first c =
+    own_equal-over c.args.«data».now c.requires.0 c.requires.1 _ _ _ (found (goal.at.returns-then-data-first c).In-Whole) c.wide.ensures.0 c.if-data-first.true
+
+pub returns : goal.returns
+returns c =
+    own_equal-fits c.args.«data».now c.requires.0 c.requires.1 _ _ _ (found (goal.at.returns c).In-Whole) c.wide.ensures.0 c.if-data-first.false
