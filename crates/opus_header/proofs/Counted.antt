@@ -12,7 +12,7 @@ use Rattle.opus_size.specs.Size.{most_bytes, length_field, length_fields}
 use Rattle.opus_size.proofs.Fields.{width}
 use Rattle.opus_format.specs.Frames.{total, longest}
 use Rattle.opus_format.proofs.Frames.{total_snoc}
-use Rattle.opus_header.specs.Header.{all_are, same, firsts, last, sizes}
+use Rattle.opus_header.specs.Header.{all_are, same, firsts, last}
 use Rattle.opus_header.specs.Sums.{sums_of}
 use Rattle.opus_format.proofs.Lengths.{longest_at, take_next}
 use Rattle.opus_header.proofs.Lengths.{firsts_whole, last_at, same-all, all_agree, all_differ}

@@ -3,7 +3,7 @@
 --     sums_total, sums_few            what the sum is, and how large the sums can be
 --     form-packet                     the packet that is written for a range is that of the form chosen for it
 -- Assumes nothing.
-use Prim.Native.Nat.{ℕ, ◌+◌, ◌*◌, ◌-◌, ◌≤◌}
+use Prim.Native.Nat.{ℕ, ◌+◌, ◌*◌, ◌≤◌}
 use native.Mathlib.Omega.{arith}
 use mathlib.Core.Path.{◌≡◌, refl, ap}
 use mathlib.Core.List.{List, [], ◌∷◌, append-nil}

@@ -4,9 +4,9 @@
 --     same-replicate, replicate-same, replicate-last                      lengths that are all the same
 --     same-all, all_agree, all_differ                                     one length more that agrees, or does not
 -- Assumes nothing.
-use Prim.Native.Nat.{ℕ, zero, suc, ◌+◌, ◌-◌, ◌≤◌}
+use Prim.Native.Nat.{ℕ, zero, suc, ◌-◌, ◌≤◌}
 use native.Mathlib.Omega.{arith}
-use mathlib.Core.Path.{◌≡◌, refl, ap}
+use mathlib.Core.Path.{◌≡◌, refl, ap, sym, subst}
 use mathlib.Core.List.{List, [], ◌∷◌, ◌++◌}
 use mathlib.Core.Bool.{true, false}
 use lib.Dec.{eqb}
@@ -69,7 +69,7 @@ all-last : (n : ℕ) (ns : List ℕ) → all_are n ns ≡ true → last (n ∷ n
 all-last n [] e = refl
 all-last n (m ∷ ns) e =
     let first : m ≡ n = eqb-true m n (both_left (eqb m n) (all_are n ns) e) in
-    rw first (all-last n ns (both_right (eqb m n) (all_are n ns) e))
+    subst (λ (k : ℕ). last (k ∷ ns) ≡ n) (sym first) (all-last n ns (both_right (eqb m n) (all_are n ns) e))
 
 pub same-replicate : (ns : List ℕ) → same ns ≡ true → ns ≡ replicate (length ns) (last ns)
 same-replicate [] e = refl

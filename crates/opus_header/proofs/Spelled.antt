@@ -13,7 +13,7 @@ use Rattle.opus_size.specs.Size.{most_bytes, length_fields}
 use Rattle.opus_toc.specs.Toc.{toc_byte}
 use Rattle.opus_format.specs.Frames.{lengths, longest}
 use Rattle.opus_format.specs.Format.{Lasts, Padding, Layout, code0, code1, code2, code3equal, code3unequal, Spells, count_byte, own_length}
-use Rattle.opus_header.specs.Header.{same, firsts, last, chain, pad_bytes, header, compact_header, full_header}
+use Rattle.opus_header.specs.Header.{same, firsts, last, pad_bytes, header, compact_header, full_header}
 use Rattle.opus_header.specs.Compact.{compact, full}
 use Rattle.opus_header.proofs.Lengths.{firsts_whole, firsts_count, same-replicate}
 use Rattle.opus_header.proofs.Chain.{chain_padding}

@@ -1,6 +1,6 @@
 -- The bytes that are written in front of frames of these lengths (document 01, 'Collecting and writing'), in the layouts of RFC 6716,
 -- section 3.2 and appendix B. Every packet written is such a header, the frames one behind another, and zeros.
-use Rattle.std.specs.Prelude.{ℕ, ◌+◌, ◌*◌, ◌-◌, ◌/◌, List, [], ◌∷◌, ◌++◌, Bool, true, cond, ◌&&◌, ltb, eqb, length, replicate}
+use Rattle.std.specs.Prelude.{ℕ, ◌*◌, ◌-◌, ◌/◌, List, [], ◌∷◌, ◌++◌, Bool, true, cond, ◌&&◌, ltb, eqb, length, replicate}
 use Rattle.opus_size.specs.Size.{length_fields}
 use Rattle.opus_toc.specs.Toc.{toc_byte}
 use Rattle.opus_format.specs.Format.{count_byte, own_length}
