@@ -7,25 +7,26 @@
 -- Assumes nothing.
 use Prim.Native.Nat.{ℕ, suc, ◌+◌, ◌-◌, ◌<◌, ◌≤◌}
 use native.Mathlib.Omega.{arith}
+use native.Mathlib.Numerals.{add-one}
 use mathlib.Core.Path.{◌≡◌, refl, sym, ap, ◌∙◌}
 use mathlib.Core.List.{List, [], ◌∷◌, ◌++◌}
 use lib.Dec.{eqb}
-use borrow.Author.Tests.{eqb-true, eqb-false, eq-eqb}
-use lib.ListN.{length, get_or, take, drop, length-drop, take-append-drop}
+use borrow.Author.Tests.{eqb-true, eqb-false, eq-eqb, ne_eqb}
+use lib.ListN.{length, get_or, take, drop, length-drop, take-append-drop, drop_of_length-le}
 use lib.Seq.{drop-cons, drop-drop, take-length, length-take-le}
 use Rattle.laws.proofs.Never.{by_test}
-use Rattle.bytes.specs.Bytes.{slice, index_of, index_after}
+use Rattle.laws.specs.Scan.{slice, index_of}
 use Rattle.marks.specs.Flags.{flags_of}
 use Rattle.marks.proofs.Flags.{flags_none, flags_some}
 
 -- ---- a list and what follows it
 index_before : (l m : List ℕ) → index_of 75 l < length l → index_of 75 (l ++ m) ≡ index_of 75 l
-unfolding index_of index_after
+unfolding index_of
 index_before [] m h = absurd (omega arith)
 index_before (b ∷ l) m h = by_test (eqb b 75) (λ t. rw t) (λ t. rw t (ap suc (index_before l m (omega (arith, rw t at h)))))
 
 index_behind : (l m : List ℕ) → index_of 75 l ≡ length l → index_of 75 (l ++ m) ≡ length l + index_of 75 m
-unfolding index_of index_after
+unfolding index_of
 index_behind [] m e = omega arith
 index_behind (b ∷ l) m e =
     by_test (eqb b 75) (λ t. absurd (omega (arith, rw t at e))) (λ t. rw t (omega (arith, index_behind l m (omega (arith, rw t at e)))))
@@ -102,7 +103,7 @@ abbrev pub First : List ℕ → ℕ → ℕ → Type 0
 First s at r = (r ≡ at + index_of 75 (slice at (length s) s)) × (r ≤ length s)
 
 pub first_here : (s : List ℕ) (at : ℕ) → at < length s → get_or s at 0 ≡ 75 → First s at at
-unfolding index_of index_after
+unfolding index_of
 first_here s at h e = (rw (slice_all s at, drop-cons s at 0 h, eq-eqb (get_or s at 0) 75 e) (omega arith), omega arith)
 
 module _ {s : List ℕ} {at place : ℕ} (g : Sought s at place) where
@@ -120,3 +121,24 @@ module _ {s : List ℕ} {at place : ℕ} (g : Sought s at place) where
           inside = omega (arith, g.inside);
           same = omega (arith, g.same, t.1.1 (omega (arith, t.0)));
         }
+
+  -- one byte passed over, which is none
+  pub sought_next : place < length s → (get_or s place 0 ≡ 75 → ⊥) → Sought s at (place + 1)
+  unfolding index_of
+  sought_next h other =
+      let step : index_of 75 (drop place s) ≡ suc (index_of 75 (drop (suc place) s)) =
+      rw (drop-cons s place 0 h, ne_eqb (get_or s place 0) 75 other) refl in
+      record {
+        from = omega (arith, g.from);
+        inside = omega arith;
+        same = rw add-one (omega (arith, g.same, step));
+      }
+
+  pub sought_end : length s ≤ place → First s at place
+  unfolding index_of
+  sought_end h =
+      let none : drop place s ≡ [] = drop_of_length-le s h in
+      (rw (slice_all s at) (omega (arith, g.same, ap (index_of 75) none)), g.inside)
+
+  pub sought_byte : place < length s → get_or s place 0 ≡ 75 → First s at place
+  sought_byte h e = (rw (slice_all s at) (omega (arith, g.same, (first_here s place h e).0, ap (index_of 75) (slice_all s place))), g.inside)

@@ -18,7 +18,7 @@ use Rattle.laws.specs.Bytes.{Bytes}
 use Rattle.laws.proofs.Bytes.{bytes_tail}
 use Rattle.laws.proofs.Never.{by_test}
 use Rattle.laws.proofs.Every.{every_at}
-use Rattle.bytes.specs.Bytes.{index_of, index_after}
+use Rattle.laws.specs.Scan.{index_of}
 use Rattle.low_first.specs.Numbers.{from_low}
 use Rattle.marks.specs.Flags.{flags_of}
 
@@ -106,7 +106,7 @@ unflagged k f =
     rw (e, even, even, even, even, even, even, even, even)
 
 first_flag : (l : List ℕ) → count_trailing_zeros (8 * length l) (flags_of l) / 8 ≡ index_of 75 l
-unfolding index_of index_after count_trailing_zeros
+unfolding index_of count_trailing_zeros
 first_flag [] = refl
 first_flag (b ∷ l) =
     let k = 8 * length l in
@@ -122,13 +122,13 @@ first_most t = trailing_le 64 t
 
 -- ---- by the place of the first 4B
 pub flags_none : (l : List ℕ) → flags_of l ≡ 0 → index_of 75 l ≡ length l
-unfolding index_of index_after
+unfolding index_of
 flags_none [] e = refl
 flags_none (b ∷ l) e =
     by_test (eqb b 75) (λ t. absurd (omega (arith, rw t at e))) (λ t. rw t (omega (arith, flags_none l (omega (arith, rw t at e)))))
 
 pub flags_some : (l : List ℕ) → (flags_of l ≡ 0 → ⊥) → index_of 75 l < length l
-unfolding index_of index_after
+unfolding index_of
 flags_some [] f = absurd (f refl)
 flags_some (b ∷ l) f =
     by_test (eqb b 75) (λ t. rw t (omega arith))

@@ -3,7 +3,7 @@
 
 ghost use Rattle.std.specs.Prelude.{◌≡◌, List, ℕ, ◌+◌, ◌<◌, ◌≤◌, length, take, drop};
 ghost use Rattle.laws.specs.Bytes.{Bytes};
-ghost use Rattle.bytes.specs.Bytes.{index_of, slice};
+ghost use Rattle.laws.specs.Scan.{index_of, slice};
 ghost use Rattle.low_first.specs.Numbers.{from_low};
 ghost use Rattle.marks.specs.Flags.{flags_of};
 
@@ -55,6 +55,22 @@ fn in_32(data: &[u8], at: usize) -> usize
     24 + first_in(d)
 }
 
+// The same byte by byte.
+fn find_from(data: &[u8], from: usize) -> usize
+    requires { from ≤ length «data».now }
+    ensures place { result ≡ from + index_of 0x4B (slice from (length «data».now) «data».now) }
+    ensures within { result ≤ length «data».now }
+{
+    let mut at = from;
+    while at < data.len() {
+        if data[at] == 0x4B {
+            return at;
+        }
+        at += 1;
+    }
+    at
+}
+
 // The place of the first 4B from a place on, or the end.
 pub fn find_mark(data: &[u8], at: usize) -> usize
     requires { at ≤ length «data».now }
@@ -74,5 +90,5 @@ pub fn find_mark(data: &[u8], at: usize) -> usize
         }
         place += 32;
     }
-    bytes::scan::find(data, place, data.len(), 0x4B)
+    find_from(data, place)
 }
