@@ -56,3 +56,6 @@ module _ (s : List ℕ) (at : ℕ) (l : List ℕ) where
 pub ends_less : (s : List ℕ) (at : ℕ) (l : List ℕ) {next : ℕ} → next ≡ (part_from s at (length l)).next → line_most ≤ length l → at < length s
     → length s - next < length s - at
 ends_less s at l e h i = let w = part_moves s at (length l) h i in omega (arith, w.0, w.1)
+
+-- what the goals of `put_lines` and `print` need
+pub ruleset ending = (ends_read, ends_small, refused_room, ends_refused, ends_less)

@@ -80,3 +80,6 @@ module _ {s : List ℕ} {start : ℕ} {l d : List ℕ} {at n : ℕ} (p : Filled 
 
   pub ends_full : length d - n < line_most → Lines at
   ends_full h = ends at (lines_full (length s) s at (length l - n) (omega (arith, filled-length)))
+
+-- what the goals of `record_lines` need
+pub ruleset filling = (filled_start, filled-length, turn_inside, turn_less, turn_room, filled_more, ends_none, ends_full)

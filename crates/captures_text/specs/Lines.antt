@@ -1,6 +1,6 @@
 -- The text that the program `captures` writes (document 02, M-101): a line for each record, and `refused -1` for a capture that is too long.
 -- 32 is a space, 10 the end of a line.
-use Rattle.std.specs.Prelude.{ℕ, zero, suc, ◌+◌, ◌-◌, List, [], ◌∷◌, ◌++◌, cond, eqb, leb, ltb, length}
+use Rattle.std.specs.Prelude.{ℕ, zero, suc, ◌-◌, List, [], ◌∷◌, ◌++◌, cond, eqb, leb, ltb, length}
 use Rattle.opus_defines.specs.Numbers.{refusal_number}
 use Rattle.opus_defines.specs.declared.Refusal.TheVariants.{BadArg}
 use Rattle.capture.specs.declared.NextRecord.{NextRecord}

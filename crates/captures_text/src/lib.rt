@@ -33,6 +33,7 @@ fn put_line(out: &mut [u8], at: usize, r: NextRecord) -> usize
 }
 
 // The lines of the records from a place on.
+#[tactic(auto, using(crate::proofs::Filled::filling))]
 fn record_lines(data: &[u8], start: usize, out: &mut [u8]) -> Lines
     requires { length «data».now ≤ most_capture }
     ensures bytes { out.new
@@ -60,6 +61,7 @@ fn record_lines(data: &[u8], start: usize, out: &mut [u8]) -> Lines
 
 // Puts the lines of the records from a place on at the front of `out`, as long as the longest has room; what is too long to be read is
 // the line `refused -1`.
+#[tactic(auto, using(crate::proofs::Ends::ending))]
 pub fn put_lines(data: &[u8], start: usize, out: &mut [u8]) -> Lines
     ensures bytes { out.new ≡ sets out.old 0 (part_from «data».now start (length out.old)).text }
     ensures count { result.bytes ≡ length (part_from «data».now start (length out.old)).text }
@@ -83,6 +85,7 @@ pub fn put_lines(data: &[u8], start: usize, out: &mut [u8]) -> Lines
 }
 
 // Prints the whole text of a capture, up to a write that fails, which is told.
+#[tactic(auto, using(crate::proofs::Ends::ending))]
 pub fn print(data: &[u8]) {
     let mut out = [0u8; 4096];
     let mut at: usize = 0;
