@@ -1,5 +1,4 @@
 -- `opus_head::head_read` meets its contract: at each way out, the tests on the way say what `head_read` is.
--- behind the test of the letters
 use native.Mathlib.Omega.{arith}
 use mathlib.Core.Path.{◌≡◌, sym, ap, ◌∙◌}
 use mathlib.Core.Bool.{true}

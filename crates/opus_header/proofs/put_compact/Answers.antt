@@ -1,5 +1,4 @@
 -- `opus_header::put_compact` meets its contract: the compact header is put, and the frames' block behind it.
--- the header and the frames together are the compact packet's bytes
 use Prim.Native.Nat.{◌+◌}
 use native.Mathlib.Omega.{arith}
 use mathlib.Core.Path.{◌≡◌}
@@ -13,7 +12,6 @@ use Rattle.opus_header.proofs.Behind.{both_long, put_small, put_compact_lem}
 use Rattle.opus_header.proofs.put_compact.Goals as goal
 use Rattle.opus_header.proofs.put_compact.Goals.{After-compact_form-form}
 
--- `opus_header::put_compact` meets its contract: the compact header is put, and the frames' block behind it.
 -- the header and the frames together are the compact packet's bytes
 long : (k : After-compact_form-form)
     → length (header_of k.args.self_delimited (upper_six k.args.toc) k.args.ns.now k.compact_form-form.result) + k.sums_of-m.result.total

@@ -1,5 +1,4 @@
 -- `opus_header::put_header` meets its contract: the front, the length fields, and the self-delimited form's length, one behind another.
--- where the ways to the second `if` meet
 use native.Mathlib.Omega.{arith}
 use mathlib.Core.Path.{sym, ◌∙◌}
 use Prim.Native.Nat.{◌-◌, ◌≤◌}
