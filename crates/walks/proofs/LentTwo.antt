@@ -12,7 +12,7 @@ use native.Mathlib.Nat.{le_of_suc-le-suc, not-suc-le-zero}
 use mathlib.Core.List.{List, [], ◌∷◌}
 use mathlib.Core.Option.{some as just, none-ne-some, some-injective}
 use seplogic.Ra.Ura.{Ura}
-use seplogic.Ra.TreeShare.{full_share}
+use base.Fraction.{full_share}
 use mir.Syntax.{Sym, Ty, Tys, tnil, tcons, Width, ty_int, ty_array, ty_struct}
 use mir.Val.{Val, Vals, vnil, vcons, vstruct}
 use mir.Fields.{get_v, set_v}

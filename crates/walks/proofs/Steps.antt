@@ -9,13 +9,13 @@ use mathlib.Core.Path.{◌≡◌, sym, subst}
 use Prim.Native.Nat.{ℕ}
 use mathlib.Core.List.{List, [], ◌∷◌, ◌++◌}
 use seplogic.Ra.Ura.{Ura}
-use seplogic.Ra.TreeShare.{full_share}
-use mir.Syntax.{Name, Ty, Fn, place, copy}
+use base.Fraction.{full_share}
+use mir.Syntax.{Ty, Fn, place, copy}
 use mir.Val.{Val}
 use base.Logic.{SProp, ent, sep, id⊢, via, assoc', mono_l, mono_r}
 use base.Fml.{Share, fat, froom, fdies}
 use prog.Model.{Model}
-use prog.Routine.{Env as Names}
+use prog.Routine.{Callee, Env as Names}
 use prog.Wp.{Env, spot_of, WpFn, Closed}
 use types.Logic.{Logic}
 use contract.Lifetimes.{Lfts, Shares, AllOutlive}
@@ -91,7 +91,7 @@ module _ {M : Type 1} {𝓤 : Ura M} {𝓛 : Logic 𝓤} {K : Type 0} {Γ : List
       freed_as t n m (subst (λ (j : Item 𝓤). ent 𝓤 (mean 𝓛 j) (H.room τ b 0)) (sym e) (id⊢ 𝓤 (H.room τ b 0))) e'
 
 module _ {M : Type 1} {𝓤 : Ura M} (𝓛 : Logic 𝓤) (𝓜 : Model 𝓤 𝓛.H) (𝓡 : Running 𝓤 𝓛.H 𝓜) (T : Ended)
-    (hs : Stays T.signature.params T.kept) (c : Clauses 𝓤 T) (names : Names) (k : Name) (e : Fn) where
+    (hs : Stays T.signature.params T.kept) (c : Clauses 𝓤 T) (names : Names) (k : Callee) (e : Fn) where
   open 𝓛 use {H}
 
   pub concluded : Closed 𝓤 H (tables 𝓤 H 𝓜 𝓡 names).C (tables 𝓤 H 𝓜 𝓡 names).Λ k e
