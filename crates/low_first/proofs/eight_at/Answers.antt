@@ -1,6 +1,5 @@
 -- `low_first::eight_at` meets its contract.
 use native.Mathlib.Omega.{arith}
-use borrow.Author.Rules.{rules}
 use Rattle.low_first.proofs.Numbers.{halves}
 use Rattle.low_first.proofs.eight_at.Goals as goal
 

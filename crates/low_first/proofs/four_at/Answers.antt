@@ -1,6 +1,5 @@
 -- `low_first::four_at` meets its contract.
 use native.Mathlib.Omega.{arith}
-use borrow.Author.Rules.{rules}
 use Rattle.low_first.proofs.Numbers.{halves}
 use Rattle.low_first.proofs.four_at.Goals as goal
 

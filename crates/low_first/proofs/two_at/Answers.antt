@@ -1,7 +1,6 @@
 -- `low_first::two_at` meets its contract.
 use Prim.Native.Nat.{◌+◌}
 use native.Mathlib.Omega.{arith}
-use borrow.Author.Rules.{rules}
 use Rattle.low_first.proofs.Numbers.{number_one, halves}
 use Rattle.low_first.proofs.two_at.Goals as goal
 

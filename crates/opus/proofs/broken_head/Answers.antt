@@ -1,6 +1,5 @@
 -- `opus::broken_head` meets its contract: the refusal of the rule.
 use mathlib.Core.Path.{ap, ◌∙◌}
-use borrow.Author.Rules.{rules}
 use Rattle.opus.specs.Heads.{no_head}
 use Rattle.opus.proofs.broken_head.Goals as goal
 

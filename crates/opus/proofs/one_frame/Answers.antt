@@ -1,5 +1,4 @@
 -- `opus::one_frame` meets its contract: by the test on the length.
-use borrow.Author.Rules.{rules}
 use Rattle.opus.proofs.AtShort.{one_long, one_fits}
 use Rattle.opus.proofs.one_frame.Goals as goal
 

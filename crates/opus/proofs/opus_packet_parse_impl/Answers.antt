@@ -1,6 +1,5 @@
 -- `opus::opus_packet_parse_impl` meets its contract: by the verdict, with the array that was lent or with zeros.
 use mathlib.Core.Path.{refl, ◌∙◌}
-use borrow.Author.Rules.{rules}
 use Rattle.opus.proofs.Lent.{lent_accepted, lent_refused}
 use Rattle.opus.proofs.opus_packet_parse_impl.Goals as goal
 

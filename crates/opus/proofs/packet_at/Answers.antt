@@ -4,7 +4,6 @@
 use Prim.Native.Nat.{◌+◌}
 use mathlib.Core.Path.{◌≡◌, ap, ◌∙◌}
 use native.Mathlib.Omega.{arith}
-use borrow.Author.Rules.{rules}
 use Rattle.opus_defines.specs.Rules.{rule_refusal}
 use Rattle.opus_parts.specs.Parts.{end_of}
 use Rattle.opus.specs.Heads.{no_head}

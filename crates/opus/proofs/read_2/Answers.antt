@@ -34,7 +34,8 @@ pub last_frame-requires : goal.last_frame-requires
 last_frame-requires c =
     record {
       read = rw c.wide-sum.ensures.0 (one_field (part c.args.«data».now 1 (length c.args.«data».now)) _ _ (found (goal.at.last_frame-requires c).In-Whole) (omega (arith, c.if-body-next.false, c.wide-sum.ensures.0)) _ c.requires.zeros);
-      few = search rules }
+      few = search rules;
+    }
 
 pub behind_toc-requires : goal.behind_toc-requires
 behind_toc-requires c =

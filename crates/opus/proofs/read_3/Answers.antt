@@ -4,7 +4,6 @@ use Prim.Native.Nat.{◌<◌}
 use mathlib.Core.Path.{sym, ◌∙◌}
 use native.Mathlib.Omega.{arith}
 use borrow.Author.Rules.{rules}
-use borrow.Author.Tests.{not-true, not-false}
 use lib.ListN.{get_or}
 use Rattle.opus.proofs.AtPacket.{most_frames, three_short, three_none, three_long, three_read}
 use Rattle.opus.proofs.Lent.{none-answered}
@@ -33,7 +32,8 @@ pub read_body-requires : goal.read_body-requires
 read_body-requires c =
     let few = most_frames _ _ _ (toc-byte (goal.at.read_body-requires c).After-shared_slice_known-3-1) c.samples_48k-each.ensures (sym c.fits.ensures ∙ c.if-not-fits.false) in record {
       in_bounds = (search rules, search rules, omega (arith, c.if-count-eq0.false), few);
-      zeros = search rules }
+      zeros = search rules;
+    }
 
 pub returns : goal.returns
 returns c =

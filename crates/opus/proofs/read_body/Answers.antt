@@ -58,7 +58,8 @@ unequal_3-requires c =
     let all = body_bytes c.args.self_delimited c.args.«data».now c.args.count c.requires.in_bounds.0 _ _
     (sym c.read_padding-padding.ensures ∙ c.in-Whole.is) in record {
       le_count = (c.requires.in_bounds.2, c.requires.in_bounds.3, omega (arith, all, c.requires.in_bounds));
-      zeros = c.requires.zeros }
+      zeros = c.requires.zeros;
+    }
 
 pub returns : goal.returns
 returns c =

@@ -1,6 +1,5 @@
 -- `opus::read_into` meets its contract: by the tests on the length.
 use mathlib.Core.Path.{◌∙◌}
-use borrow.Author.Rules.{rules}
 use Rattle.opus.proofs.AtPacket.{parse_long, parse_empty, parse_read}
 use Rattle.opus.proofs.Lent.{none-answered}
 use Rattle.opus.proofs.read_into.Goals as goal

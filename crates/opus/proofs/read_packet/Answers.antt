@@ -15,7 +15,8 @@ pub last_frame-requires : goal.last_frame-requires
 last_frame-requires c =
     record {
       read = no_fields_lem (part c.args.«data».now 1 (length c.args.«data».now)) _ c.requires.zeros;
-      few = search rules }
+      few = search rules;
+    }
 
 pub behind_toc-requires : goal.behind_toc-requires
 behind_toc-requires c =

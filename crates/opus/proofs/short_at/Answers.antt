@@ -1,6 +1,5 @@
 -- `opus::short_at` meets its contract: by the code.
 use mathlib.Core.Bool.{false}
-use borrow.Author.Rules.{rules}
 use Rattle.opus.proofs.AtShort.{short-empty, short_low, short_even, short-counted}
 use Rattle.opus.proofs.short_at.Goals as goal
 

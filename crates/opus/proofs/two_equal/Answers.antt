@@ -1,5 +1,4 @@
 -- `opus::two_equal` meets its contract: the frames share what is behind the TOC byte.
-use borrow.Author.Rules.{rules}
 use Rattle.opus.proofs.AtShort.{equal_odd, equal_long, equal-fits}
 use Rattle.opus.proofs.two_equal.Goals as goal
 

@@ -1,7 +1,6 @@
 -- `opus::two_unequal` meets its contract: the second frame takes what the first leaves.
 -- the first frame's length field
 use mathlib.Core.Path.{sym, ◌∙◌}
-use borrow.Author.Rules.{rules}
 use Rattle.opus_size.proofs.At.{Found, whole_was, short_was}
 use Rattle.opus.proofs.AtShort.{unequal-cut, unequal-over, unequal_long, unequal-fits}
 use Rattle.opus.proofs.two_unequal.Goals as goal

@@ -4,7 +4,6 @@ use Prim.Native.Nat.{◌-◌, ◌≤◌}
 use mathlib.Core.Path.{sym, ◌∙◌}
 use native.Mathlib.Omega.{arith}
 use lib.ListN.{length}
-use borrow.Author.Rules.{rules}
 use Rattle.opus_defines.specs.declared.Rule.TheVariants.{R7}
 use Rattle.opus.proofs.AtPacket.{uneven_place, uneven_cut, uneven_fits, uneven_read}
 use Rattle.opus.proofs.Lent.{none-answered}
@@ -28,7 +27,8 @@ pub last_frame-requires : goal.last_frame-requires
 last_frame-requires c =
     record {
       read = (sym c.in-All.is ∙ c.read_sizes-f.ensures.0, c.read_sizes-f.ensures.1);
-      few = omega (arith, c.requires.le_count) }
+      few = omega (arith, c.requires.le_count);
+    }
 
 pub packet_at-requires : goal.packet_at-requires
 packet_at-requires c =

@@ -20,7 +20,8 @@ returns-in_default c =
     encode_negative c.args.size c.args.«data».now
     (counted c.args.size c.ranges.size c.count_of.ensures.is c.in_default.is) in record {
       number = back ∙ (c.refusal_number.ensures ∙ law.0);
-      bytes = law.1 }
+      bytes = law.1;
+    }
 
 pub returns-then-n-gt-MOST_BYTES : goal.returns-then-n-gt-MOST_BYTES
 returns-then-n-gt-MOST_BYTES c =
@@ -29,7 +30,8 @@ returns-then-n-gt-MOST_BYTES c =
     encode_long c.args.size c.args.«data».now _
     (counted c.args.size c.ranges.size c.count_of.ensures.is c.in-Is.is) c.if-n-gt-MOST_BYTES.true in record {
       number = back ∙ (c.refusal_number-then-n-gt-MOST_BYTES.ensures ∙ law.0);
-      bytes = law.1 }
+      bytes = law.1;
+    }
 
 pub returns-then-data-size_bytes : goal.returns-then-data-size_bytes
 returns-then-data-size_bytes c =
@@ -39,7 +41,8 @@ returns-then-data-size_bytes c =
     (counted c.args.size c.ranges.size c.count_of.ensures.is c.in-Is.is)
     c.if-n-gt-MOST_BYTES.false (omega (arith, c.size_bytes.ensures)) in record {
       number = back ∙ (c.refusal_number-then-data-size_bytes.ensures ∙ law.0);
-      bytes = law.1 }
+      bytes = law.1;
+    }
 
 pub overflow_cast-next : goal.overflow_cast-next
 overflow_cast-next c =
@@ -53,4 +56,5 @@ returns c =
     (counted c.args.size c.ranges.size c.count_of.ensures.is c.in-Is.is)
     c.if-n-gt-MOST_BYTES.false (omega (arith, c.size_bytes.ensures)) in record {
       number = back ∙ (c.number_of.ensures ∙ (ap pos (c.put_size-next.ensures.next ∙ zero-add _) ∙ law.0));
-      bytes = c.put_size-next.ensures.bytes ∙ law.1 }
+      bytes = c.put_size-next.ensures.bytes ∙ law.1;
+    }

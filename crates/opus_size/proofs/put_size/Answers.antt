@@ -1,6 +1,5 @@
 -- `opus_size::put_size` meets its contract: the bytes stored are those of the field.
 use native.Mathlib.Omega.{arith}
-use borrow.Author.Rules.{rules}
 use lib.ListN.{length-set}
 use Rattle.opus_size.proofs.Put.{put_short, put_long}
 use Rattle.opus_size.proofs.put_size.Goals as goal

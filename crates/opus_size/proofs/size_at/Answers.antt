@@ -1,6 +1,5 @@
 -- `opus_size::size_at` meets its contract: at each `return` the tests that led there say which field stands at the place.
 use mathlib.Core.Path.{ap, ◌∙◌}
-use borrow.Author.Rules.{rules}
 use Prim.Native.Nat.{ℕ, ◌+◌}
 use Rattle.opus_size.specs.declared.SizeAt.TheVariants.{Whole}
 use Rattle.opus_size.proofs.At.{at_end, at_short, at_cut, at_long}

@@ -1,6 +1,5 @@
 -- `opus_size::size_told` meets its contract: it is the field at place 0.
 use mathlib.Core.Path.{sym, ◌∙◌}
-use borrow.Author.Rules.{rules}
 use Rattle.opus_size.proofs.At.{front-short, front_whole}
 use Rattle.opus_size.proofs.size_told.Goals as goal
 

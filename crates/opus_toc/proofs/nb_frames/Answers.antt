@@ -1,5 +1,4 @@
 -- `opus_toc::nb_frames` meets its contract: the tests on the way to each `return` say the code.
-use borrow.Author.Rules.{rules}
 use Rattle.opus_toc.proofs.Answers.{frames_empty, frames_one, frames_two, frames_cut, frames_count}
 use Rattle.opus_toc.proofs.nb_frames.Goals as goal
 

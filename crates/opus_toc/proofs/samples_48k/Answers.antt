@@ -44,6 +44,7 @@ ms40 = 2 ∷ 6 ∷ 10 ∷ []
 
 abbrev ms60 : List ℕ
 ms60 = 3 ∷ 7 ∷ 11 ∷ []
+
 module _ (c : ℕ) where
   others : (OneOf ms2½ c → ⊥) → (OneOf ms5 c → ⊥) → (OneOf ms10 c → ⊥) → (OneOf ms40 c → ⊥) → (OneOf ms60 c → ⊥) → c < 32
       → Has 960 c

@@ -1,7 +1,6 @@
 -- `opus_toc::samples_8k` meets its contract: by the tests of the code.
 use mathlib.Core.Path.{◌∙◌}
 use native.Mathlib.Omega.{arith}
-use borrow.Author.Rules.{rules}
 use Rattle.opus_toc.proofs.Samples.{celt_8k_lem, hybrid_8k, silk_8k_lem}
 use Rattle.opus_toc.proofs.samples_8k.Goals as goal
 

@@ -4,7 +4,6 @@ use mathlib.Core.Path.{refl, ap, ◌∙◌}
 use Prim.Native.Nat.{ℕ}
 use mathlib.Core.List.{List, [], ◌∷◌, ◌++◌}
 use lib.ListN.{replicate}
-use borrow.Author.Rules.{rules}
 use Rattle.opus_toc.specs.Toc.{configuration, duration, samples}
 use Rattle.opus_toc.proofs.Samples.{table_rule}
 use Rattle.opus_toc.proofs.samples_in_table.Goals as goal

@@ -1,6 +1,5 @@
 -- `opus_toc::samples_per_frame` meets its contract, by its tests.
 use mathlib.Core.Path.{sym, ◌∙◌}
-use borrow.Author.Rules.{rules}
 use Rattle.opus_toc.proofs.Answers.{samples-empty, samples-none, samples_some}
 use Rattle.opus_toc.proofs.samples_per_frame.Goals as goal
 

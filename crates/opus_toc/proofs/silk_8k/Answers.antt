@@ -1,5 +1,4 @@
 -- `opus_toc::silk_8k` meets its contract: each arm is a place of the list, and the last one has what is left.
-use borrow.Author.Rules.{rules}
 use Rattle.opus_toc.proofs.Samples.{silks, at_last}
 use Rattle.opus_toc.proofs.silk_8k.Goals as goal
 

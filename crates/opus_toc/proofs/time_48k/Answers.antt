@@ -1,6 +1,5 @@
 -- `opus_toc::time_48k` meets its contract: the product fits 32 bits.
 use native.Mathlib.Omega.{arith}
-use borrow.Author.Rules.{rules}
 use Rattle.opus_toc.proofs.Samples.{product}
 use Rattle.opus_toc.proofs.time_48k.Goals as goal
 

@@ -9,8 +9,6 @@ use Prim.Native.Nat.{◌+◌, ◌≤◌, ◌<◌}
 use mathlib.Core.Path.{sym, ◌∙◌}
 use mathlib.Core.Bool.{false}
 use native.Mathlib.Omega.{arith}
-use borrow.Author.Rules.{rules}
-use borrow.Author.Tests.{not-true, not-false}
 use lib.ListN.{length, get_or}
 use Rattle.opus.proofs.AtPacket.{body_room}
 use Rattle.opus.proofs.AtEqual.{equal-empty, equal_other, equal-short, equal_flag, equal-none, equal-time, equal_unfit, equal_shared}

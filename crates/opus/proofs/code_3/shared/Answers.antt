@@ -1,5 +1,4 @@
 -- `opus::code_3::shared` meets its contract: by its tests.
-use borrow.Author.Rules.{rules}
 use Rattle.opus.proofs.AtEqual.{shared_uneven, shared_long, shared_same}
 use Rattle.opus.proofs.code_3.shared.Goals as goal
 

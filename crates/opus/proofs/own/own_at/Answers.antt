@@ -1,6 +1,5 @@
 -- `opus::own::own_at` meets its contract: by the code.
 use mathlib.Core.Bool.{true}
-use borrow.Author.Rules.{rules}
 use Rattle.opus.proofs.AtShort.{short-empty, short_low, short_even, short-counted}
 use Rattle.opus.proofs.own.own_at.Goals as goal
 

@@ -1,7 +1,6 @@
 -- `opus::own::own_equal` meets its contract: the frames say their one length.
 -- the length field
 use mathlib.Core.Path.{sym, ◌∙◌}
-use borrow.Author.Rules.{rules}
 use Rattle.opus_size.proofs.At.{Found, whole_was, short_was}
 use Rattle.opus.proofs.AtOwn.{own_equal-cut, own_equal-over, own_equal-fits}
 use Rattle.opus.proofs.own.own_equal.Goals as goal

@@ -3,7 +3,6 @@
 -- where the first frame was found to fit, and its length
 -- the second frame's length field
 use mathlib.Core.Path.{sym, ◌∙◌}
-use borrow.Author.Rules.{rules}
 use Rattle.opus_size.proofs.At.{Found, whole_was, short_was}
 use Rattle.opus.proofs.AtOwn.{own_unequal-cut, own_unequal-over, own_second_cut, own_second_over, own_second_fits}
 use Rattle.opus.proofs.own.own_unequal.Goals as goal

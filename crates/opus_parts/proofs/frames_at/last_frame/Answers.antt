@@ -1,5 +1,4 @@
 -- `opus_parts::frames_at::last_frame` meets its contract: by the delimiting.
-use borrow.Author.Rules.{rules}
 use Rattle.opus_parts.proofs.frames_at.last_frame.Goals as goal
 
 pub returns-then-self_delimited : goal.returns-then-self_delimited

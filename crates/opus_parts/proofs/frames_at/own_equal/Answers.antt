@@ -1,7 +1,6 @@
 -- `opus_parts::frames_at::own_equal` meets its contract: one field says the length of all frames.
 use mathlib.Core.Path.{sym, ◌∙◌}
 use native.Mathlib.Omega.{arith}
-use borrow.Author.Rules.{rules}
 use Rattle.opus_size.proofs.At.{whole_was, short_was}
 use Rattle.opus_toc.proofs.Samples.{product}
 use Rattle.opus_parts.proofs.AtFrames.{each-short, each_over, each_read}

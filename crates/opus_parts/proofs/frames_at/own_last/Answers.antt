@@ -1,7 +1,6 @@
 -- `opus_parts::frames_at::own_last` meets its contract: the last frame's length stands behind the others'.
 use mathlib.Core.Path.{sym, ◌∙◌}
 use native.Mathlib.Omega.{arith}
-use borrow.Author.Rules.{rules}
 use Rattle.opus_size.proofs.At.{whole_was, short_was}
 use Rattle.opus_parts.proofs.AtFrames.{sizes_inside, own_short, own_over, own_read}
 use Rattle.opus_parts.proofs.frames_at.own_last.Goals as goal

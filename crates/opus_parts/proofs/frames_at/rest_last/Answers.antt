@@ -1,5 +1,4 @@
 -- `opus_parts::frames_at::rest_last` meets its contract: the last frame's length is what the others leave.
-use borrow.Author.Rules.{rules}
 use Rattle.opus_parts.proofs.AtFrames.{sizes_inside, rest_long, rest_read}
 use Rattle.opus_parts.proofs.frames_at.rest_last.Goals as goal
 

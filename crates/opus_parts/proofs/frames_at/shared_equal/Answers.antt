@@ -1,5 +1,4 @@
 -- `opus_parts::frames_at::shared_equal` meets its contract: the slice is cut into equal parts.
-use borrow.Author.Rules.{rules}
 use Rattle.opus_parts.proofs.AtFrames.{shared_uneven, shared_long, shared_read}
 use Rattle.opus_parts.proofs.frames_at.shared_equal.Goals as goal
 

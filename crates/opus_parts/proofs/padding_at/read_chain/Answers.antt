@@ -1,8 +1,5 @@
 -- `opus_parts::padding_at::read_chain` meets its contract. The invariant: the padding so far with the chain from here on is the whole chain, and it fits.
-use Prim.Native.Nat.{◌-◌}
-use borrow.Author.Rules.{rules}
-use lib.ListN.{length}
-use Rattle.opus_parts.proofs.AtPadding.{Chain, chain_start, chain_end, chain_unfit, chain_whole, chain-over, chain_more}
+use Rattle.opus_parts.proofs.AtPadding.{chain_start, chain_end, chain_unfit, chain_whole, chain-over, chain_more}
 use Rattle.opus_parts.proofs.padding_at.read_chain.Goals as goal
 
 pub loop-at-init : goal.loop-at-init

@@ -1,6 +1,5 @@
 -- `opus_parts::padding_at::read_padding` meets its contract: by the padding flag.
 use mathlib.Core.Path.{◌∙◌}
-use borrow.Author.Rules.{rules}
 use Rattle.opus_parts.proofs.AtPadding.{unpadded_at, padded_at}
 use Rattle.opus_parts.proofs.padding_at.read_padding.Goals as goal
 

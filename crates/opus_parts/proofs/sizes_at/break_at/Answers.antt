@@ -1,10 +1,9 @@
 -- `opus_parts::sizes_at::break_at` meets its contract. The invariant: the fields from here on break where all of them do.
 -- the field that was read
-use Prim.Native.Nat.{◌-◌}
 use mathlib.Core.Path.{sym, ◌∙◌}
 use borrow.Author.Rules.{rules}
 use Rattle.opus_size.proofs.At.{Found, whole_was, short_was}
-use Rattle.opus_parts.proofs.AtSizes.{Stops, stops_start, stops_cut, stops_over, stops_more, stops_end}
+use Rattle.opus_parts.proofs.AtSizes.{stops_start, stops_cut, stops_over, stops_more, stops_end}
 use Rattle.opus_parts.proofs.sizes_at.break_at.Goals as goal
 use Rattle.opus_parts.proofs.sizes_at.break_at.Goals.{In-Whole}
 

@@ -1,8 +1,5 @@
 use Prim.Native.Nat.{◌-◌}
-use mathlib.Core.Path.{sym, ◌∙◌}
-use borrow.Author.Rules.{rules}
-use Rattle.opus_size.proofs.At.{Found, whole_was, short_was}
-use Rattle.opus_parts.proofs.AtSizes.{Stops, stops_start, stops_cut, stops_over, stops_more, stops_end}
+use Rattle.opus_parts.proofs.AtSizes.{Stops}
 use Rattle.opus_parts.proofs.sizes_at.break_at.Given as goal
 
 abbrev pub invariant-loop-i : goal.invariant-loop-i

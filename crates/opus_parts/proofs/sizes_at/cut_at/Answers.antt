@@ -1,7 +1,6 @@
 -- `opus_parts::sizes_at::cut_at` meets its contract: the last length that was read by itself, then those behind it.
 use mathlib.Core.Path.{◌∙◌}
 use native.Mathlib.Omega.{arith}
-use borrow.Author.Rules.{rules}
 use Rattle.opus_parts.proofs.AtSizes.{cut-last, cut_later}
 use Rattle.opus_parts.proofs.sizes_at.cut_at.Goals as goal
 

@@ -1,14 +1,14 @@
 -- `opus_parts::sizes_at::read_sizes` meets its contract. The invariant: the array is the lengths read so far, and they with the fields from
 -- here on are all the fields, or the last length is too long by itself.
 -- the field of this turn
-use Prim.Native.Nat.{◌-◌, ◌<◌}
+use Prim.Native.Nat.{◌<◌}
 use mathlib.Core.Path.{refl, sym}
 use mathlib.Core.Logic.{⊎_elim}
 use native.Mathlib.Omega.{arith}
 use borrow.Author.Rules.{rules}
 use lib.ListN.{length}
 use Rattle.opus_size.proofs.At.{short_was, at_cut}
-use Rattle.opus_parts.proofs.AtSizes.{Sizes, Taken, taken_one, taken_two, sizes_start, sizes_more, sizes-cut, sizes-over, sizes_end}
+use Rattle.opus_parts.proofs.AtSizes.{Taken, taken_one, taken_two, sizes_start, sizes_more, sizes-cut, sizes-over, sizes_end}
 use Rattle.opus_parts.proofs.sizes_at.read_sizes.Goals as goal
 use Rattle.opus_parts.proofs.sizes_at.read_sizes.Goals.{Joined-last-ge252}
 

@@ -1,11 +1,5 @@
-use Prim.Native.Nat.{◌-◌, ◌<◌}
-use mathlib.Core.Path.{refl, sym}
-use mathlib.Core.Logic.{⊎_elim}
-use native.Mathlib.Omega.{arith}
-use borrow.Author.Rules.{rules}
-use lib.ListN.{length}
-use Rattle.opus_size.proofs.At.{short_was, at_cut}
-use Rattle.opus_parts.proofs.AtSizes.{Sizes, Taken, taken_one, taken_two, sizes_start, sizes_more, sizes-cut, sizes-over, sizes_end}
+use Prim.Native.Nat.{◌-◌}
+use Rattle.opus_parts.proofs.AtSizes.{Sizes}
 use Rattle.opus_parts.proofs.sizes_at.read_sizes.Given as goal
 
 abbrev pub invariant-loop-i : goal.invariant-loop-i

@@ -1,10 +1,7 @@
 -- `opus_parts::sizes_at::same_lengths` meets its contract. The invariant: the array is the length i times, and zeros.
-use Prim.Native.Nat.{◌-◌, ◌≤◌}
 use mathlib.Core.Path.{◌≡◌}
 use native.Mathlib.Omega.{arith}
 use borrow.Author.Rules.{rules}
-use lib.ListN.{replicate}
-use Rattle.opus_format.specs.Frames.{padded48}
 use Rattle.opus_parts.proofs.AtSizes.{same_more}
 use Rattle.opus_parts.proofs.sizes_at.same_lengths.Goals as goal
 

@@ -1,10 +1,7 @@
 use Prim.Native.Nat.{◌-◌, ◌≤◌}
 use mathlib.Core.Path.{◌≡◌}
-use native.Mathlib.Omega.{arith}
-use borrow.Author.Rules.{rules}
 use lib.ListN.{replicate}
 use Rattle.opus_format.specs.Frames.{padded48}
-use Rattle.opus_parts.proofs.AtSizes.{same_more}
 use Rattle.opus_parts.proofs.sizes_at.same_lengths.Given as goal
 
 abbrev pub invariant-loop-i : goal.invariant-loop-i

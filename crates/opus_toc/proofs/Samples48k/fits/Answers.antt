@@ -1,6 +1,5 @@
 -- `opus_toc::Samples48k::fits` meets its contract: the product fits 32 bits.
 use native.Mathlib.Omega.{arith}
-use borrow.Author.Rules.{rules}
 use Rattle.opus_toc.proofs.Samples.{product}
 use Rattle.opus_toc.proofs.Samples48k.fits.Goals as goal
 
