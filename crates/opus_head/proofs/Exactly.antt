@@ -165,7 +165,8 @@ module _ (s : List ℕ) (bytes : Bytes s) (h : 19 ≤ length s) where
       (head_with s (get_or s 19 0) (get_or s 20 0) (entries (take c (drop 21 s))))
       (λ _. mapped_ranged 1 (c - 1) (take c (0 ∷ 1 ∷ [])) (omega arith) (omega arith) (bytes_take c (0 ∷ 1 ∷ []) two)
       (omega (arith, length-part_le (0 ∷ 1 ∷ []) 0 c)))
-      (λ _. mapped_ranged (get_or s 19 0) (get_or s 20 0) (take c (drop 21 s)) (bytes.byte 19) (bytes.byte 20) (bytes_take c (drop 21 s) (bytes_drop 21 s bytes))
+      (λ _. mapped_ranged (get_or s 19 0) (get_or s 20 0) (take c (drop 21 s)) (bytes.byte 19) (bytes.byte 20)
+      (bytes_take c (drop 21 s) (bytes_drop 21 s bytes))
       (omega (arith, length-part_le s 21 c)))
 
 -- the length, tested or not

@@ -127,7 +127,8 @@ module _ (s : List ℕ) (bytes : Bytes s) where
             (front ∙ ap (λ l. letters ++ (run 11 8 s ++ l)) behind)
 
       pub read_spells : needed s ≤ length s → s ≡ head_bytes (head_of s) ++ drop (needed s) s
-      read_spells fits = by_test (eqb (get_or s 18 0) 0) (λ t. spells_plain (eqb-true (get_or s 18 0) 0 t)) (λ t. spells_table (eqb-false (get_or s 18 0) 0 t) fits)
+      read_spells fits = by_test (eqb (get_or s 18 0) 0) (λ t. spells_plain (eqb-true (get_or s 18 0) 0 t))
+          (λ t. spells_table (eqb-false (get_or s 18 0) 0 t) fits)
 
 -- ---- what is spelled reads back
 zeros : (l : List ℕ) → ((i : ℕ) → get_or l i 0 ≡ 0) → l ≡ replicate (length l) 0

@@ -22,4 +22,5 @@ bounds-data-20 c =
 
 pub returns : goal.returns
 returns c =
-    c.head_mapped.ensures ∙ mapped_as c.args.«data».now c.wide_byte.ensures.0 c.mapping_of-mapping.ensures ∙ sym (head_table c.args.«data».now c.if-data-eq0.false)
+    c.head_mapped.ensures ∙ mapped_as c.args.«data».now c.wide_byte.ensures.0 c.mapping_of-mapping.ensures ∙ sym
+    (head_table c.args.«data».now c.if-data-eq0.false)

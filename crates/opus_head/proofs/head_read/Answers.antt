@@ -25,7 +25,8 @@ returns-then-not-has_letters c =
 
 pub returns-then-data-gt15 : goal.returns-then-data-gt15
 returns-then-data-gt15 c =
-    c.no_head-then-data-gt15.ensures ∙ sym (read-version c.args.«data».now c.if-data-lt-LEAST_HEAD.false (lettered (goal.at.returns-then-data-gt15 c).Else-not-has_letters) c.if-data-gt15.true)
+    c.no_head-then-data-gt15.ensures ∙ sym (read-version c.args.«data».now c.if-data-lt-LEAST_HEAD.false
+    (lettered (goal.at.returns-then-data-gt15 c).Else-not-has_letters) c.if-data-gt15.true)
 
 pub returns-then-not-long_as : goal.returns-then-not-long_as
 returns-then-not-long_as c =

@@ -9,5 +9,8 @@ use Rattle.opus_head.proofs.write_fields.Goals as goal
 
 pub returns : goal.returns
 returns c =
-    let back : to_z w32 (of_z w32 c.number_of.result) ≡ c.number_of.result = search rules in let whole = told_report (fields_of c.args.version c.args.channels c.args.pre_skip c.args.rate c.args.gain c.args.family c.args.streams c.args.coupled c.args.mapping.now)
-    c.args.dst.now c.ranges.gain back c.number_of.ensures c.write_answer.ensures.says c.write_answer.ensures.bytes in record { number = whole.0; bytes = whole.1 }
+    let back : to_z w32 (of_z w32 c.number_of.result) ≡ c.number_of.result = search rules in
+    let whole = told_report (fields_of c.args.version c.args.channels c.args.pre_skip c.args.rate c.args.gain c.args.family c.args.streams
+    c.args.coupled c.args.mapping.now)
+    c.args.dst.now c.ranges.gain back c.number_of.ensures c.write_answer.ensures.says c.write_answer.ensures.bytes in
+    record { number = whole.0; bytes = whole.1 }

@@ -30,16 +30,27 @@ put_header-at-requires c =
 
 pub copy_into-requires : goal.copy_into-requires
 copy_into-requires c =
-    let sum = sums_total c.args.ns.now c.sums_of-m.ensures in
-    (omega (arith, long (goal.at.copy_into-requires c).After-compact_form-form, c.requires.room, c.put_header-at.ensures.next, c.put_header-at.auto.data), omega (arith, c.requires.block))
+    let sum = sums_total c.args.ns.now c.sums_of-m.ensures in (
+      omega (
+        arith,
+        long (goal.at.copy_into-requires c).After-compact_form-form,
+        c.requires.room,
+        c.put_header-at.ensures.next,
+        c.put_header-at.auto.data,
+      ),
+      omega (arith, c.requires.block),
+    )
 
 pub overflow_add-result : goal.overflow_add-result
 overflow_add-result c =
-    let small = put_small c.args.self_delimited (upper_six c.args.toc) c.args.ns.now c.args.«data».now c.args.first c.requires.block c.sums_of-m.result c.sums_of-m.ensures
+    let small = put_small c.args.self_delimited (upper_six c.args.toc) c.args.ns.now c.args.«data».now c.args.first c.requires.block
+    c.sums_of-m.result c.sums_of-m.ensures
     c.compact_form-form.result c.compact_form-form.ensures c.requires.some.1 c.requires.some.2 in
     omega (arith, long (goal.at.overflow_add-result c).After-compact_form-form, c.put_header-at.ensures.next, small)
 
 pub returns : goal.returns
 returns c =
-    let whole = put_compact_lem c.args.self_delimited (upper_six c.args.toc) c.args.ns.now c.args.«data».now c.args.first c.requires.block c.sums_of-m.result c.sums_of-m.ensures
-    c.compact_form-form.result c.compact_form-form.ensures c.args.dst.now c.put_header-at.ensures.bytes c.put_header-at.ensures.next c.copy_into.ensures in record { bytes = whole.0; next = whole.1 }
+    let whole = put_compact_lem c.args.self_delimited (upper_six c.args.toc) c.args.ns.now c.args.«data».now c.args.first c.requires.block
+    c.sums_of-m.result c.sums_of-m.ensures
+    c.compact_form-form.result c.compact_form-form.ensures c.args.dst.now c.put_header-at.ensures.bytes c.put_header-at.ensures.next
+    c.copy_into.ensures in record { bytes = whole.0; next = whole.1 }

@@ -18,8 +18,10 @@ put_full-requires c =
 
 pub returns-in-Short : goal.returns-in-Short
 returns-in-Short c =
-    let whole = put_short c.args.«data».now (upper_six c.args.toc) c.args.count c.args.same c.args.form c.short_code.ensures c.in-Short.is in record { bytes = whole.0; next = whole.1 }
+    let whole = put_short c.args.«data».now (upper_six c.args.toc) c.args.count c.args.same c.args.form c.short_code.ensures c.in-Short.is in
+    record { bytes = whole.0; next = whole.1 }
 
 pub returns-in-Full : goal.returns-in-Full
 returns-in-Full c =
-    let whole = put_either c.args.«data».now (upper_six c.args.toc) c.args.count c.args.same c.args.form c.in-Full.missing c.put_full.ensures.bytes c.put_full.ensures.next c.in-Full.is in record { bytes = whole.0; next = whole.1 }
+    let whole = put_either c.args.«data».now (upper_six c.args.toc) c.args.count c.args.same c.args.form c.in-Full.missing c.put_full.ensures.bytes
+    c.put_full.ensures.next c.in-Full.is in record { bytes = whole.0; next = whole.1 }

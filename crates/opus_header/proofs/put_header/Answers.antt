@@ -23,12 +23,16 @@ middle c =
     ]
 
 pub put_front-at-requires : goal.put_front-at-requires
-put_front-at-requires c =
-    (c.requires.some.1, front_room (upper_six c.args.toc) c.args.ns.now c.args.form c.args.m c.requires.measured c.args.self_delimited c.args.«data».now c.requires.room)
+put_front-at-requires c = (
+  c.requires.some.1,
+  front_room (upper_six c.args.toc) c.args.ns.now c.args.form c.args.m c.requires.measured c.args.self_delimited
+      c.args.«data».now c.requires.room,
+)
 
 pub put_size-at-requires : goal.put_size-at-requires
 put_size-at-requires c =
-    own_room (middle (goal.at.put_size-at-requires c).Joined-not-same) c.requires.measured c.args.self_delimited c.if-self_delimited.true c.requires.some.0 c.requires.some.2 c.requires.room
+    own_room (middle (goal.at.put_size-at-requires c).Joined-not-same) c.requires.measured c.args.self_delimited c.if-self_delimited.true
+    c.requires.some.0 c.requires.some.2 c.requires.room
 
 pub shape_of-data-then-self_delimited : goal.shape_of-data-then-self_delimited
 shape_of-data-then-self_delimited c =
@@ -36,7 +40,8 @@ shape_of-data-then-self_delimited c =
 
 pub returns-then-self_delimited : goal.returns-then-self_delimited
 returns-then-self_delimited c =
-    let whole = put_own (middle (goal.at.returns-then-self_delimited c).Joined-not-same) c.requires.measured c.args.self_delimited c.if-self_delimited.true c.put_size-at.ensures.bytes c.put_size-at.ensures.next in record { bytes = whole.0; next = whole.1 }
+    let whole = put_own (middle (goal.at.returns-then-self_delimited c).Joined-not-same) c.requires.measured c.args.self_delimited
+    c.if-self_delimited.true c.put_size-at.ensures.bytes c.put_size-at.ensures.next in record { bytes = whole.0; next = whole.1 }
 
 pub shape_of-data-else-self_delimited : goal.shape_of-data-else-self_delimited
 shape_of-data-else-self_delimited c =
@@ -44,7 +49,8 @@ shape_of-data-else-self_delimited c =
 
 pub returns-else-self_delimited : goal.returns-else-self_delimited
 returns-else-self_delimited c =
-    let whole = put_end (middle (goal.at.returns-else-self_delimited c).Joined-not-same) c.requires.measured c.args.self_delimited c.if-self_delimited.false in record { bytes = whole.0; next = whole.1 }
+    let whole = put_end (middle (goal.at.returns-else-self_delimited c).Joined-not-same) c.requires.measured c.args.self_delimited
+    c.if-self_delimited.false in record { bytes = whole.0; next = whole.1 }
 
 pub slice_bounds-put_sizes-length : goal.slice_bounds-put_sizes-length
 slice_bounds-put_sizes-length c =

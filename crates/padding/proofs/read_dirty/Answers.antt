@@ -54,4 +54,5 @@ slice_bounds-dirt_in-end c =
 
 pub returns : goal.returns
 returns c =
-    dirt_told c.args.self_delimited c.args.«data».now (packet_with c.read_into-p.result c.read_into-p.new.lengths) (reading (goal.at.returns c).In-Accepted) c.sums_of-m.result c.sums_of-m.ensures c.dirt_in.result c.dirt_in.ensures
+    dirt_told c.args.self_delimited c.args.«data».now (packet_with c.read_into-p.result c.read_into-p.new.lengths)
+    (reading (goal.at.returns c).In-Accepted) c.sums_of-m.result c.sums_of-m.ensures c.dirt_in.result c.dirt_in.ensures
