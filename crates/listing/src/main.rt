@@ -1,10 +1,10 @@
 // Prints the listing of the one packet that standard input holds.
 #![tactic(auto)]
 
-fn main() {
+fn main(rt: HostRuntime) {
     // One byte more than the longest packet: an input that fills the buffer is too long, whatever is behind it.
     let mut data = io::large_buffer();
-    let input = stdio::read_all(&mut data);
+    let input = stdio::read_all(&mut rt.stdin(), &mut data);
     if input.ok {
         let n = input.bytes;
         let mut out = [0u8; 2048];
