@@ -1,10 +1,8 @@
 -- `aveluafi::reading::aveluafi_packet_parse` meets its contract: each arm is the record of what was read, and any other packet is read whole.
 -- the packet is a list of bytes
--- a packet that breaks a rule
 -- code 3, of a packet that is not too long
 -- the record was built behind the lengths
 -- any other packet of code 3
--- what was read is what is to be answered
 use native.Mathlib.Omega.{arith}
 use mathlib.Core.Path.{◌≡◌, sym, ap, ◌∙◌}
 use mathlib.Core.Bool.{false}

@@ -3,7 +3,6 @@
 -- the packet is a list of bytes
 -- where the length was tested, and the entry
 -- the delimiting that was asked for is the one that was read
--- a packet that breaks a rule
 -- the packet that is read whole
 use native.Mathlib.Omega.{arith}
 use mathlib.Core.Path.{◌≡◌, sym, ap, ◌∙◌}
