@@ -30,8 +30,11 @@ pad_last-requires c =
 pub returns-in-Past : goal.returns-in-Past
 returns-in-Past c =
     let packet = take c.args.len c.args.«data».now in
-    let is = pad_last_lem packet c.args.streams c.args.new_len c.in-Past.at (sym c.pass_streams-p.ensures ∙ c.in-Past.is) in let whole = meets (ap (leaves c.args.«data».now) is) c.pad_last.ensures.report c.pad_last.ensures.bytes in record { report = whole.0; bytes = whole.1 }
+    let is = pad_last_lem packet c.args.streams c.args.new_len c.in-Past.at (sym c.pass_streams-p.ensures ∙ c.in-Past.is) in
+    let whole = meets (ap (leaves c.args.«data».now) is) c.pad_last.ensures.report c.pad_last.ensures.bytes in record { report = whole.0; bytes = whole.1 }
 
 pub returns-in-Stuck : goal.returns-in-Stuck
 returns-in-Stuck c =
-    let packet = take c.args.len c.args.«data».now in let whole = meets (ap (leaves c.args.«data».now) (pad_stuck packet c.args.streams c.args.new_len _ (sym c.pass_streams-p.ensures ∙ c.in-Stuck.is))) refl refl in record { report = whole.0; bytes = whole.1 }
+    let packet = take c.args.len c.args.«data».now in let whole = meets
+      (ap (leaves c.args.«data».now) (pad_stuck packet c.args.streams c.args.new_len _ (sym c.pass_streams-p.ensures ∙ c.in-Stuck.is))) refl refl in
+    record { report = whole.0; bytes = whole.1 }

@@ -23,14 +23,16 @@ reads c = packet_with c.read_into-p.result c.read_into-p.new.lengths
 answer : (c : After-read_into-p)
     → reads c ≡ parsed c.args.self_delimited (stream c.args.«data».now c.args.from c.args.len)
 answer c =
-    lent_read c.args.self_delimited c.args.«data».now c.args.to c.args.from c.args.len c.requires.places c.requires.reads c.read_into-p.result c.read_into-p.new.lengths
+    lent_read c.args.self_delimited c.args.«data».now c.args.to c.args.from c.args.len c.requires.places c.requires.reads c.read_into-p.result
+      c.read_into-p.new.lengths
     c.read_into-p.ensures
 
 -- how the stream's frames lie
 lies : (c : After-read_into-p)
     → Lies c.args.self_delimited (drop c.args.from c.args.«data».now) (c.args.len - c.args.from) (reads c)
 lies c =
-    lying c.args.self_delimited c.args.«data».now c.args.to c.args.from c.args.len c.requires.places c.requires.reads (record { byte = λ i. (c.slice_known-1.given i).fits })
+    lying c.args.self_delimited c.args.«data».now c.args.to c.args.from c.args.len c.requires.places c.requires.reads
+      (record { byte = λ i. (c.slice_known-1.given i).fits })
     (reads c) (answer c)
 
 taken : (c : After-read_into-p) → c.args.from + c.read_into-p.result.taken ≤ c.args.len
@@ -41,7 +43,8 @@ taken c =
 put : (c : After-compact_frames-bytes) → c.args.to + c.compact_frames-bytes.result ≤ c.args.len
 put c =
     let bytes : Bytes c.args.«data».now = record { byte = λ i. (c.slice_known-1.given i).fits } in
-    (rewritten c.args.self_delimited c.args.«data».now c.args.to c.args.from c.args.len c.requires.places c.requires.reads bytes (packet_with c.read_into-p.result c.read_into-p.new.lengths)
+    (rewritten c.args.self_delimited c.args.«data».now c.args.to c.args.from c.args.len c.requires.places c.requires.reads bytes
+      (packet_with c.read_into-p.result c.read_into-p.new.lengths)
     (lent_read c.args.self_delimited c.args.«data».now c.args.to c.args.from c.args.len c.requires.places c.requires.reads c.read_into-p.result
     c.read_into-p.new.lengths c.read_into-p.ensures) c.compact_frames-bytes.ensures.bytes
     c.compact_frames-bytes.ensures.next).2
@@ -49,7 +52,8 @@ put c =
 pub compact_frames-bytes-requires : goal.compact_frames-bytes-requires
 compact_frames-bytes-requires c =
     let bytes : Bytes c.args.«data».now = record { byte = λ i. (c.slice_known-1.given i).fits } in
-    let w = rewrite_fits c.args.self_delimited c.args.«data».now c.args.to c.args.from c.args.len c.requires.places c.requires.reads bytes (reads (goal.at.compact_frames-bytes-requires c).After-read_into-p) (answer (goal.at.compact_frames-bytes-requires c).After-read_into-p) in record {
+    let w = rewrite_fits c.args.self_delimited c.args.«data».now c.args.to c.args.from c.args.len c.requires.places c.requires.reads bytes
+      (reads (goal.at.compact_frames-bytes-requires c).After-read_into-p) (answer (goal.at.compact_frames-bytes-requires c).After-read_into-p) in record {
       some = (lies (goal.at.compact_frames-bytes-requires c).After-read_into-p).some;
       block = w.0;
       short = w.1;
@@ -59,7 +63,8 @@ pub returns : goal.returns
 returns c =
     let bytes : Bytes c.args.«data».now = record { byte = λ i. (c.slice_known-1.given i).fits } in
     let d =
-    rewritten c.args.self_delimited c.args.«data».now c.args.to c.args.from c.args.len c.requires.places c.requires.reads bytes (reads (goal.at.returns c).After-read_into-p) (answer (goal.at.returns c).After-read_into-p) c.compact_frames-bytes.ensures.bytes
+    rewritten c.args.self_delimited c.args.«data».now c.args.to c.args.from c.args.len c.requires.places c.requires.reads bytes
+      (reads (goal.at.returns c).After-read_into-p) (answer (goal.at.returns c).After-read_into-p) c.compact_frames-bytes.ensures.bytes
     c.compact_frames-bytes.ensures.next in record {
       bytes = d.0;
       next = d.1;
