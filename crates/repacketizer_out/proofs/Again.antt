@@ -146,8 +146,8 @@ module _ (sd : Bool) (six : ℕ) (k : six < 64) {s : State} {done : List (List �
 pub pieces-held : (sd : Bool) (six : ℕ) → six < 64 → {s : State} {done : List (List ℕ)} → Holds six s done → (pieces : List Piece)
     → Nonempty pieces → Lasts six (length done + length (together pieces)) → Fine (together pieces)
     → let l = map (packed sd six) pieces in AllAccepted s l × Holds six (after_adds s l) (done ++ together pieces)
-pieces-held sd six k {done = done} h [] n l f = (tt, rw (append-nil done) h)
-pieces-held sd six k {done = done} h (piece ∷ pieces) n l f =
+pieces-held sd six k {s = s} {done = done} h [] n l f = (tt, rw (append-nil done) h)
+pieces-held sd six k {s = s} {done = done} h (piece ∷ pieces) n l f =
     let rest = together pieces in
     let frames = piece.frames in
     let parts = fine_append frames rest f in
@@ -155,7 +155,7 @@ pieces-held sd six k {done = done} h (piece ∷ pieces) n l f =
     let more : length (done ++ frames) + length rest ≡ length done + length (frames ++ rest) = omega (arith, length-append done frames) in
     let brief = lasts_fewer (length done + length frames) l (omega (arith, n.0)) (omega arith) in
     let now = piece_held sd six k h piece.strict frames n.0 brief parts.0 in
-    let all = pieces-held sd six k now pieces n.1 (rw more l) parts.1 in
+    let all = pieces-held sd six k {s = after_add s (packed sd six piece)} {done = done ++ frames} now pieces n.1 (rw more l) parts.1 in
     ((piece_accepted sd six k h piece.strict frames n.0 brief parts.0, all.0), rw (← append_assoc done frames rest) all.1)
 
 -- ---- pieces of what a collector holds

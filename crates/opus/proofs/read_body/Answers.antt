@@ -22,9 +22,8 @@ room c =
 
 pub returns-in_default : goal.returns-in_default
 returns-in_default c =
-    none-answered _ _ _ c.broken_head.ensures
-    ∙ (ap (λ (r : Rule). no_packet (rule_refusal r 2)) c.size_rule.ensures
-    ∙ body_unfit c.args.self_delimited c.args.«data».now c.args.count (sym c.read_padding-padding.ensures ∙ c.in_default.is))
+    let unfit = body_unfit c.args.self_delimited c.args.«data».now c.args.count (sym c.read_padding-padding.ensures ∙ c.in_default.is) in
+    cc (none-answered _ _ c.args.lengths.now c.broken_head.ensures, unfit)
 
 pub overflow_add-at : goal.overflow_add-at
 overflow_add-at c =

@@ -1,2 +1,0 @@
-mod TwoAdds
-mod ThreeOuts

@@ -1,0 +1,58 @@
+-- `repacketizer::add_one` meets its contract: a frame that goes with those held is copied behind them.
+-- the frame goes with those held
+-- where the frame was found to go with those held
+use Prim.Native.Nat.{◌+◌}
+use mathlib.Core.Path.{refl, ap}
+use mathlib.Core.Bool.{not}
+use mathlib.Core.List.{[], ◌∷◌}
+use native.Mathlib.Omega.{arith}
+use borrow.Author.Rules.{rules}
+use Rattle.repacketizer.proofs.Lengths.{numbers_kept}
+use Rattle.repacketizer.proofs.Adds.{Joins, joins, joins_numbers, joins_block, head_few, block_stays}
+use Rattle.repacketizer.proofs.add_one.Goals as goal
+use Rattle.repacketizer.proofs.add_one.Goals.{Else-not-goes_with}
+
+-- the frame goes with those held
+fits : (c : Else-not-goes_with)
+    → Joins c.args.h c.args.len.now c.args.packet.now c.args.at c.args.toc (c.args.n ∷ []) c.args.store.now
+fits c =
+    joins (search rules) c.requires.collector c.args.toc (c.args.n ∷ []) c.goes_with.ensures (ap not c.if-not-goes_with.false) (omega arith) c.requires.frames.0
+
+pub goes_with-requires : goal.goes_with-requires
+goes_with-requires c =
+    (head_few (search rules) c.requires.collector, omega arith)
+
+pub copy_into-requires : goal.copy_into-requires
+copy_into-requires c =
+    (omega (arith, c.wide.ensures.0, (fits (goal.at.copy_into-requires c).Else-not-goes_with).room), omega (arith, c.wide.ensures.0, c.requires.frames.1))
+
+pub bounds-len-place : goal.bounds-len-place
+bounds-len-place c =
+    let j = fits (goal.at.bounds-len-place c).Else-not-goes_with in
+    omega (arith, c.wide-place.ensures.0, j.few, j.ready.lengths48)
+
+pub overflow_add-place : goal.overflow_add-place
+overflow_add-place c =
+    omega (arith, c.wide-place.ensures.0, (fits (goal.at.overflow_add-place c).Else-not-goes_with).few)
+
+pub put_numbers-requires : goal.put_numbers-requires
+put_numbers-requires c =
+    joins_numbers (fits (goal.at.put_numbers-requires c).Else-not-goes_with) c.wide-place.ensures.0 (omega arith)
+
+pub more_frames-requires : goal.more_frames-requires
+more_frames-requires c =
+    omega (arith, (fits (goal.at.more_frames-requires c).Else-not-goes_with).few)
+
+pub shape_of-packet : goal.shape_of-packet
+shape_of-packet c =
+    numbers_kept c.args.packet.now c.wide-place.result (c.wide-place.result + 1) c.put_numbers.ensures
+
+pub returns : goal.returns
+returns c =
+    joins_block (fits (goal.at.returns c).Else-not-goes_with) c.args.«data».now c.args.first {n = c.wide.result} c.wide-place.ensures.0 c.copy_into.ensures refl
+    c.put_numbers.ensures c.more_frames.ensures (omega (arith, c.wide.ensures.0)) (omega arith)
+
+pub returns-then-not-goes_with : goal.returns-then-not-goes_with
+returns-then-not-goes_with c =
+    block_stays c.args.h c.args.len.now c.args.packet.now c.args.toc (c.args.n ∷ []) c.args.«data».now c.args.first c.args.store.now c.goes_with.ensures
+    (ap not c.if-not-goes_with.true) c.refused_add.ensures

@@ -1,0 +1,15 @@
+-- `repacketizer::said_frames` meets its contract: by what the first bytes say.
+use mathlib.Core.Path.{sym, ap, ◌∙◌}
+use native.Mathlib.Omega.{arith}
+use Rattle.repacketizer.specs.Adding.{said_frames}
+use Rattle.repacketizer.proofs.Adds.{said_few}
+use Rattle.repacketizer.proofs.said_frames.Goals as goal
+
+pub returns-in-Number : goal.returns-in-Number
+returns-in-Number c =
+    let is = ap said_frames (sym c.in-Number.is ∙ c.nb_frames-a.ensures) in
+    (is, omega (arith, is, said_few c.args.«data».now))
+
+pub returns-in-Refused : goal.returns-in-Refused
+returns-in-Refused c =
+    (ap said_frames (sym c.in-Refused.is ∙ c.nb_frames-a.ensures), omega arith)

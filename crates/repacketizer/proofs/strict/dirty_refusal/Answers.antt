@@ -1,0 +1,1 @@
+-- `repacketizer::strict::dirty_refusal` meets its contract: by the test of an ordinary add.

@@ -1,0 +1,1 @@
+-- `repacketizer::why_not` meets its contract: by what is asked first.
