@@ -9,3 +9,4 @@ pub mod CutLaw
 pub mod Promises
 pub mod Examples
 pub mod Each
+pub mod Passes

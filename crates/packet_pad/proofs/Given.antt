@@ -137,3 +137,6 @@ module _ (s : List ℕ) (x y : ℤ) where
       by_test (eqb (length_of s x) 0)
       (λ t. sym (lengths_none (length_of s x) (length_of s y) (eqb-true (length_of s x) 0 t)))
       (λ t. sym (lengths_no_new (length_of s x) (length_of s y) (eqb-false (length_of s x) 0 t) z))
+
+-- ---- what proves `lengths_of`
+pub ruleset lengths_by_tests = (length-told, lengths_are, lengths_none, lengths_no_new, lengths-same, lengths_less, lengths_more)

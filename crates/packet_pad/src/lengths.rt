@@ -28,6 +28,7 @@ pub fn length_of(data: &[u8], len: i32) -> usize
     n
 }
 
+#[tactic(auto, using(crate::proofs::Given::lengths_by_tests))]
 pub fn lengths_of(data: &[u8], len: i32, new_len: i32) -> Lengths
     ensures { result ≡ lengths_of «data».now len new_len }
 {

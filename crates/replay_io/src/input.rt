@@ -1,7 +1,7 @@
 // The fields of a case, taken from the input buffer, which is filled again as need be.
 ghost use Rattle.std.specs.Prelude.{◌≤◌};
 
-use libc::STDIN_FILENO;
+use std::io::Stdin;
 use stdio::Got;
 
 // The longest packet, room or new length of a case.
@@ -59,16 +59,16 @@ fn filled(came: usize, n: usize) -> Cursor {
     }
 }
 
-fn read(input: &mut [u8]) -> Got {
+fn read(from: &mut Stdin, input: &mut [u8]) -> Got {
     if input.len() == 0 {
         return Got::End;
     }
-    stdio::read_more(STDIN_FILENO, input, 0)
+    stdio::read_more(from, input, 0)
 }
 
 // A read that fails is told, and ends the input besides.
-fn refilled(input: &mut [u8], came: usize) -> Cursor {
-    let got = read(input);
+fn refilled(from: &mut Stdin, input: &mut [u8], came: usize) -> Cursor {
+    let got = read(from, input);
     match got {
         Got::Bytes(n) => {
             return filled(came, n);
@@ -84,11 +84,11 @@ fn refilled(input: &mut [u8], came: usize) -> Cursor {
 }
 
 // The cursor with a byte behind it, unless the input has ended.
-fn ready(input: &mut [u8], c: Cursor) -> Cursor {
+fn ready(from: &mut Stdin, input: &mut [u8], c: Cursor) -> Cursor {
     if c.at < c.end {
         return c;
     }
-    refilled(input, c.came)
+    refilled(from, input, c.came)
 }
 
 fn byte_at(input: &[u8], c: Cursor) -> NumberAt {
@@ -162,11 +162,11 @@ fn copied(input: &[u8], c: Cursor, work: &mut [u8], to: usize, k: usize) {
 }
 
 // Takes n bytes off the input to the start of `work`.
-fn take(input: &mut [u8], c: Cursor, work: &mut [u8], n: usize) -> Taken {
+fn take(from: &mut Stdin, input: &mut [u8], c: Cursor, work: &mut [u8], n: usize) -> Taken {
     let mut next = c;
     let mut done: usize = 0;
     while done < n {
-        let d = ready(input, next);
+        let d = ready(from, input, next);
         let k = piece(d, n - done);
         if k == 0 {
             return Taken::Cut;
@@ -180,8 +180,8 @@ fn take(input: &mut [u8], c: Cursor, work: &mut [u8], n: usize) -> Taken {
 
 // ---- numbers, low byte first
 
-pub fn one(input: &mut [u8], c: Cursor) -> NumberAt {
-    let d = ready(input, c);
+pub fn one(from: &mut Stdin, input: &mut [u8], c: Cursor) -> NumberAt {
+    let d = ready(from, input, c);
     byte_at(input, d)
 }
 
@@ -189,11 +189,11 @@ fn joined(low: usize, high: usize) -> usize {
     low % 256 + 256 * (high % 256)
 }
 
-fn two(input: &mut [u8], c: Cursor) -> NumberAt {
-    let NumberAt::Is(low, d) = one(input, c) else {
+fn two(from: &mut Stdin, input: &mut [u8], c: Cursor) -> NumberAt {
+    let NumberAt::Is(low, d) = one(from, input, c) else {
         return NumberAt::Cut;
     };
-    let NumberAt::Is(high, e) = one(input, d) else {
+    let NumberAt::Is(high, e) = one(from, input, d) else {
         return NumberAt::Cut;
     };
     NumberAt::Is(joined(low, high), e)
@@ -204,19 +204,19 @@ fn joined_twos(low: usize, high: usize) -> usize {
 }
 
 // Four bytes, as a number below 2^32.
-fn four(input: &mut [u8], c: Cursor) -> NumberAt {
-    let NumberAt::Is(low, d) = two(input, c) else {
+fn four(from: &mut Stdin, input: &mut [u8], c: Cursor) -> NumberAt {
+    let NumberAt::Is(low, d) = two(from, input, c) else {
         return NumberAt::Cut;
     };
-    let NumberAt::Is(high, e) = two(input, d) else {
+    let NumberAt::Is(high, e) = two(from, input, d) else {
         return NumberAt::Cut;
     };
     NumberAt::Is(joined_twos(low, high), e)
 }
 
 // Four bytes, of a number that is not above `most`.
-fn within(input: &mut [u8], c: Cursor, most: usize) -> NumberAt {
-    let NumberAt::Is(n, d) = four(input, c) else {
+fn within(from: &mut Stdin, input: &mut [u8], c: Cursor, most: usize) -> NumberAt {
+    let NumberAt::Is(n, d) = four(from, input, c) else {
         return NumberAt::Cut;
     };
     if most < n {
@@ -248,11 +248,11 @@ pub fn low_16(u: usize) -> u16 {
 // ---- fields
 
 // Bytes behind their number, which is read already: they go to the start of `work`.
-fn bytes(input: &mut [u8], work: &mut [u8], n: NumberAt) -> NumberAt {
+fn bytes(from: &mut Stdin, input: &mut [u8], work: &mut [u8], n: NumberAt) -> NumberAt {
     let NumberAt::Is(k, c) = n else {
         return NumberAt::Cut;
     };
-    let Taken::Whole(d) = take(input, c, work, k) else {
+    let Taken::Whole(d) = take(from, input, c, work, k) else {
         return NumberAt::Cut;
     };
     NumberAt::Is(k, d)
@@ -260,21 +260,21 @@ fn bytes(input: &mut [u8], work: &mut [u8], n: NumberAt) -> NumberAt {
 
 // The field of a digit: 1, 2 and 4 are a number of so many bytes, A a room or a length, B bytes behind their length, C bytes behind a length of one byte,
 // D four bytes of a number that is not negative; E is no field, and the number 0.
-fn field(input: &mut [u8], c: Cursor, digit: u64, work: &mut [u8]) -> NumberAt {
+fn field(from: &mut Stdin, input: &mut [u8], c: Cursor, digit: u64, work: &mut [u8]) -> NumberAt {
     match digit {
-        1 => one(input, c),
-        2 => two(input, c),
-        4 => four(input, c),
-        0xA => within(input, c, MOST),
+        1 => one(from, input, c),
+        2 => two(from, input, c),
+        4 => four(from, input, c),
+        0xA => within(from, input, c, MOST),
         0xB => {
-            let n = within(input, c, MOST);
-            bytes(input, work, n)
+            let n = within(from, input, c, MOST);
+            bytes(from, input, work, n)
         }
         0xC => {
-            let n = one(input, c);
-            bytes(input, work, n)
+            let n = one(from, input, c);
+            bytes(from, input, work, n)
         }
-        0xD => within(input, c, 2147483647),
+        0xD => within(from, input, c, 2147483647),
         0xE => NumberAt::Is(0, c),
         _ => NumberAt::Cut,
     }
@@ -283,6 +283,7 @@ fn field(input: &mut [u8], c: Cursor, digit: u64, work: &mut [u8]) -> NumberAt {
 // Takes the fields of a form off the input, and puts their numbers, of bytes how many, into `ns`. A form has ten hexadecimal digits, one for each field, from
 // the first on; a 0 ends it.
 pub fn fields(
+    from: &mut Stdin,
     input: &mut [u8],
     c: Cursor,
     form: u64,
@@ -297,7 +298,7 @@ pub fn fields(
         if digit == 0 {
             return Taken::Whole(next);
         }
-        let NumberAt::Is(n, d) = field(input, next, digit, work) else {
+        let NumberAt::Is(n, d) = field(from, input, next, digit, work) else {
             return Taken::Cut;
         };
         ns[i] = n;

@@ -10,7 +10,7 @@ pub rewrite-requires : goal.rewrite-requires
 rewrite-requires c =
     let is =
     compact_laid c.args.self_delimited (upper_six c.args.toc) c.args.ns.now c.args.«data».now c.args.first c.requires.block
-      c.compact_form-form.result c.compact_form-form.ensures c.requires.short in record {
+    c.compact_form-form.result c.compact_form-form.ensures c.requires.short in record {
       measured = c.sums_of-m.ensures;
       some = c.requires.some;
       few = rw c.compact_form-form.ensures (omega (arith, compact-missing (length c.args.ns.now)));
@@ -22,7 +22,7 @@ pub returns : goal.returns
 returns c =
     let is =
     compact_laid c.args.self_delimited (upper_six c.args.toc) c.args.ns.now c.args.«data».now c.args.first c.requires.block
-      c.compact_form-form.result c.compact_form-form.ensures c.requires.short in record {
+    c.compact_form-form.result c.compact_form-form.ensures c.requires.short in record {
       bytes = rw is.0 at c.rewrite.ensures.bytes;
       next = rw is.0 at c.rewrite.ensures.next;
     }

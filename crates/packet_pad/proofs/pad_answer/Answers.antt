@@ -24,16 +24,16 @@ pad_packet-requires c =
 pub returns-in-Bad : goal.returns-in-Bad
 returns-in-Bad c =
     let whole = meets (pad_bad c.args.«data».now c.args.len c.args.new_len (told (goal.at.returns-in-Bad c).After-lengths_of-l c.in-Bad.is)) refl
-      refl in record { report = whole.0; bytes = whole.1 }
+    refl in record { report = whole.0; bytes = whole.1 }
 
 pub returns-in-Same : goal.returns-in-Same
 returns-in-Same c =
     let whole = meets (pad_same c.args.«data».now c.args.len c.args.new_len (told (goal.at.returns-in-Same c).After-lengths_of-l c.in-Same.is)) refl
-      refl in record { report = whole.0; bytes = whole.1 }
+    refl in record { report = whole.0; bytes = whole.1 }
 
 pub returns-in-More : goal.returns-in-More
 returns-in-More c =
     let whole = meets (pad_more c.args.«data».now c.args.len c.args.new_len c.in-More.n c.in-More.m
-      (told (goal.at.returns-in-More c).After-lengths_of-l c.in-More.is))
+    (told (goal.at.returns-in-More c).After-lengths_of-l c.in-More.is))
     (ap report_of c.pad_packet.ensures.answer ∙ report_answered c.args.«data».now (pad_packet (take c.in-More.n c.args.«data».now) c.in-More.m))
-      c.pad_packet.ensures.bytes in record { report = whole.0; bytes = whole.1 }
+    c.pad_packet.ensures.bytes in record { report = whole.0; bytes = whole.1 }

@@ -36,7 +36,7 @@ rewrite-requires c =
       block = c.requires.block;
       room = padded_room false (upper_six c.args.toc) c.args.ns.now c.args.«data».now c.args.first c.requires.block c.sums_of-m.result c.sums_of-m.ensures
           c.compact_bytes-need.result c.compact_bytes-need.ensures c.args.new_len c.form_for-form.result c.form_for-form.ensures
-            (need (goal.at.rewrite-requires c).After-compact_bytes-need) c.requires.room.1;
+          (need (goal.at.rewrite-requires c).After-compact_bytes-need) c.requires.room.1;
     }
 
 pub returns : goal.returns

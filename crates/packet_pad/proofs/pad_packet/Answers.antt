@@ -16,7 +16,7 @@ use Rattle.packet_pad.proofs.pad_packet.Goals.{In_default}
 lying : (c : In_default) → Lies false c.args.«data».now c.args.len (packet_with c.read_into-p.result c.read_into-p.new.lengths)
 lying c =
     lies false c.args.«data».now c.args.len (packet_with c.read_into-p.result c.read_into-p.new.lengths) (record { byte = λ i. search rules })
-      (omega (arith, c.requires))
+    (omega (arith, c.requires))
     (lent_accepted false _ _ _ c.read_into-p.ensures c.in_default.is) c.in_default.is
 
 pub slice_bounds-read_into-end-2 : goal.slice_bounds-read_into-end-2
@@ -42,7 +42,7 @@ pad_frames-requires c =
 pub returns-in_default : goal.returns-in_default
 returns-in_default c =
     let is = pad_read c.args.«data».now c.args.len (packet_with c.read_into-p.result c.read_into-p.new.lengths)
-      (lying (goal.at.returns-in_default c).In_default) c.args.new_len in record {
+    (lying (goal.at.returns-in_default c).In_default) c.args.new_len in record {
       answer = sym (ap answered is);
       bytes = c.pad_frames.ensures ∙ sym (ap (λ x. (leaves c.args.«data».now x).bytes) is);
     }

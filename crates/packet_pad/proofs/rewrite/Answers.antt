@@ -16,7 +16,7 @@ fit : (c : After-header_bytes-at)
     (c.args.first + c.args.m.total ≤ room) × (c.header_bytes-at.result + c.args.m.total + pad_bytes (missing c.args.form) ≤ room)
 fit c =
     parts_fit c.args.self_delimited (upper_six c.args.toc) c.args.ns.now c.args.m c.args.form c.args.«data».now c.args.first c.header_bytes-at.result
-      c.requires.measured
+    c.requires.measured
     c.requires.block c.header_bytes-at.ensures c.requires.room
 
 pub header_bytes-at-requires : goal.header_bytes-at-requires
@@ -31,7 +31,7 @@ pub put_header-requires : goal.put_header-requires
 put_header-requires c =
     let head =
     header-length c.args.self_delimited (upper_six c.args.toc) c.args.ns.now c.args.m c.args.form c.args.«data».now c.args.first
-      c.header_bytes-at.result c.requires.measured
+    c.header_bytes-at.result c.requires.measured
     c.requires.block c.header_bytes-at.ensures in record {
       measured = c.requires.measured;
       some = c.requires.some;
@@ -57,6 +57,6 @@ overflow_add-result-2 c =
 pub returns : goal.returns
 returns c =
     let whole = rewritten c.args.self_delimited (upper_six c.args.toc) c.args.ns.now c.args.m c.args.form c.args.«data».now c.args.first
-      c.header_bytes-at.result c.requires.measured
+    c.header_bytes-at.result c.requires.measured
     c.requires.block c.header_bytes-at.ensures
     c.move_block.ensures c.put_header.ensures.bytes c.pad_bytes-zeros.ensures c.fill.ensures in record { bytes = whole.0; next = whole.1 }

@@ -15,7 +15,7 @@ told c =
 pub returns-then-n-eq0 : goal.returns-then-n-eq0
 returns-then-n-eq0 c =
     let whole = meets (unpad_none c.args.«data».now c.args.len _ (told (goal.at.returns-then-n-eq0 c).After-length_of-n) c.if-n-eq0.true) refl refl
-      in record { report = whole.0; bytes = whole.1 }
+    in record { report = whole.0; bytes = whole.1 }
 
 pub unpad_packet-requires : goal.unpad_packet-requires
 unpad_packet-requires c =
@@ -25,4 +25,4 @@ unpad_packet-requires c =
 pub returns : goal.returns
 returns c =
     let whole = meets (unpad_some c.args.«data».now c.args.len _ (told (goal.at.returns c).After-length_of-n) c.if-n-eq0.false)
-      c.unpad_packet.ensures.report c.unpad_packet.ensures.bytes in record { report = whole.0; bytes = whole.1 }
+    c.unpad_packet.ensures.report c.unpad_packet.ensures.bytes in record { report = whole.0; bytes = whole.1 }

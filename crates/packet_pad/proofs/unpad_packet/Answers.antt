@@ -48,7 +48,7 @@ overflow_cast-result c =
 pub returns-in_default : goal.returns-in_default
 returns-in_default c =
     let whole = meets (ap (leaves c.args.«data».now) (unpad_read c.args.«data».now c.args.len
-      (packet_with c.read_into-p.result c.read_into-p.new.lengths) (lying (goal.at.returns-in_default c).In_default)))
+    (packet_with c.read_into-p.result c.read_into-p.new.lengths) (lying (goal.at.returns-in_default c).In_default)))
     (ap (λ n. plain (pos n)) c.compact_frames-bytes.ensures.next)
     c.compact_frames-bytes.ensures.bytes in record { report = whole.0; bytes = whole.1 }
 
@@ -57,5 +57,5 @@ returns c =
     let whole = meets
     (ap (leaves c.args.«data».now)
     (unpad_refused c.args.«data».now c.args.len (answer_of c.read_into-p.result c.read_into-p.new.lengths) c.read_into-p.ensures _ c.in-Refused.is
-      c.requires.1))
+    c.requires.1))
     refl refl in record { report = whole.0; bytes = whole.1 }

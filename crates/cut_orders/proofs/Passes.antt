@@ -1,28 +1,53 @@
--- What the two passes of `out_many_lent` count and leave, by the collector, the store, the list and the destination: Each.antt's laws as the walk needs them.
+-- What the two passes of `out_many_lent` count and leave, by the collector, the store, the list and the destination: Each.antt's laws as its loops need them.
 --     part, list, bytes, place     what the first k orders come to, and what they leave
 --     turns-1, turns-2             how many orders each pass goes through
 --     Measures, measures           a turn of the first pass: what `next_order` asks
 --     Writes, writes               a turn of the second one: what `put_order` asks, and what its answer and its bytes come to
 --     part-0, .., told             where the passes begin and end
 -- Assumes nothing.
-use Prim.Native.Nat.{ℕ, suc, ◌+◌, ◌<◌, ◌≤◌, ◌^◌}
+use Prim.Native.Nat.{ℕ, suc, ◌+◌, ◌-◌, ◌<◌, ◌≤◌, ◌^◌}
 use native.Mathlib.Omega.{arith}
 use mathlib.Core.Path.{◌≡◌, sym, ap, subst, ◌∙◌}
-use mathlib.Core.Bool.{true}
-use mathlib.Core.List.{List}
-use lib.IntN.{pos}
+use mathlib.Core.Bool.{true, false}
+use mathlib.Core.List.{List, ◌++◌}
+use lib.IntN.{ℤ, pos}
 use lib.ListN.{length, take, drop, get_or, set}
+use Rattle.opus_defines.specs.Outcome.{Effect, refusal, Outcome, leaves}
+use Rattle.opus_defines.specs.declared.Refusal.{Refusal}
 use Rattle.opus_toc.specs.Toc.{upper_six}
 use Rattle.collector.specs.declared.Head.{Head}
 use Rattle.collector.specs.declared.OpusRepacketizer.{OpusRepacketizer}
 use Rattle.collector.specs.Collector.{framed, held, least_store}
 use Rattle.collector.specs.Parts.{collector_of, bare}
 use Rattle.collector.proofs.Sound.{sound-bare}
+use Rattle.repacketizer_out.specs.Output.{out_frames}
 use Rattle.cut_orders.specs.declared.Order.{Order}
+use Rattle.cut_orders.specs.declared.OrderReport.{OrderReport}
 use Rattle.cut_orders.specs.Orders.{Cutting, each, begun, order_report, next, with_length, leaves_many, out_many, natural, turns, done}
 use Rattle.cut_orders.proofs.Each as E
 use Rattle.cut_orders.proofs.Each.{past, Opens, opens, Fits, fits-natural, fits-done, part-fits, begun-leaves, list_long, bytes_long, leaves_report}
-use Rattle.cut_orders.proofs.out_many_lent.Proof.Calls.{Few, Roomy, Taken, Answers, Leaves}
+
+-- ---- what a call asks, and what it says
+abbrev effect : (h : Head) (len store : List ℕ) (begin end : ℤ) (dst : List ℕ) (at : ℕ) → Effect
+effect h len store begin end dst at = out_frames false false (upper_six h.toc) (held (bare h len) store) begin end (length dst - at)
+
+abbrev single : (h : Head) (len store : List ℕ) (begin end : ℤ) (dst : List ℕ) (at : ℕ) → Outcome
+single h len store begin end dst at = leaves (drop at dst) (effect h len store begin end dst at)
+
+abbrev pub Answers : (h : Head) (len store : List ℕ) (begin end : ℤ) (dst : List ℕ) (at : ℕ) → ℕ → Type 0
+Answers h len store begin end dst at r = r ≡ natural (single h len store begin end dst at).report.number
+
+abbrev pub Leaves : (h : Head) (len store : List ℕ) (begin end : ℤ) (dst : List ℕ) (at : ℕ) → List ℕ → Type 0
+Leaves h len store begin end dst at zs = zs ≡ take at dst ++ (single h len store begin end dst at).bytes
+
+abbrev pub Few : (m : OrderReport) (room i : ℕ) → Type 0
+Few m room i = (i < 48) × (room ≤ 65535) × (natural m.number ≤ room)
+
+abbrev pub Roomy : (store dst : List ℕ) (at : ℕ) → Type 0
+Roomy store dst at = (least_store ≤ length store) × (length dst ≤ 65535) × (at ≤ length dst)
+
+abbrev pub Taken : (h : Head) (len store : List ℕ) (begin end : ℤ) (dst : List ℕ) (at : ℕ) → Type 0
+Taken h len store begin end dst at = (e : Refusal) → effect h len store begin end dst at ≡ refusal e → ⊥
 
 module _ (h : Head) (len packet store : List ℕ) (os : List Order) (dst : List ℕ) where
   abbrev rp : OpusRepacketizer
@@ -56,7 +81,7 @@ module _ (h : Head) (len packet store : List ℕ) (os : List Order) (dst : List 
   turns-2 = E.second_turns six frames os dst start
 
   pub turns-few : turns-1 ≤ length os
-  turns-few = E.first-most six frames os dst start
+  turns-few = E.first_most six frames os dst start
 
   pub long-list : (k : ℕ) → length (list k) ≡ length os
   long-list k = list_long os dst (part k)
@@ -111,23 +136,23 @@ module _ (h : Head) (len packet store : List ℕ) (os : List Order) (dst : List 
 
   pub writes : (k : ℕ) → k < turns-2 → Writes k
   writes k small =
-      let one : k < turns-1 = omega (arith, small, E.second-most six frames os dst start) in
+      let one : k < turns-1 = omega (arith, small, E.second_most six frames os dst start) in
       let within : k < length os = omega (arith, one, turns-few) in
       let on = opened k one in
       let t = E.turn six frames os dst start on.fresh k small in
-      let before : place k ≤ length (bytes k) = E.place-within six frames os dst start k within t in
-      let fits = E.put-fits six frames os dst start k within t in
-      let is = E.put-length six frames os dst start k within t (drop (place k) (bytes k)) in
+      let before : place k ≤ length (bytes k) = E.place_within six frames os dst start k within t in
+      let fits = E.put_fits six frames os dst start k within t in
+      let is = E.put_length six frames os dst start k within t (drop (place k) (bytes k)) in
       record {
         within = omega (arith, within, long-list k);
         collector = sound-bare h len packet on.soundly;
         roomy = (on.roomy, omega (arith, long-bytes k, on.small), before);
-        taken = E.put-taken six frames os dst start k within t;
+        taken = E.put_taken six frames os dst start k within t;
         near = omega (arith, before, long-bytes k, on.small);
         sum = λ r e. omega (arith, e ∙ is, fits, on.small);
-        on-place = λ r e. ap (λ (j : ℕ). place k + j) (e ∙ is) ∙ E.put-place six frames os dst start k within t;
-        on_list = λ r e. ap (λ (j : ℕ). set (list k) k (with_length j (order k))) (e ∙ is) ∙ E.put-list six frames os dst start k within t;
-        on-bytes = λ zs e. e ∙ E.put-bytes six frames os dst start k within t;
+        on-place = λ r e. ap (λ (j : ℕ). place k + j) (e ∙ is) ∙ E.put_place six frames os dst start k within t;
+        on_list = λ r e. ap (λ (j : ℕ). set (list k) k (with_length j (order k))) (e ∙ is) ∙ E.put_list six frames os dst start k within t;
+        on-bytes = λ zs e. e ∙ E.put_bytes six frames os dst start k within t;
       }
 
   -- ---- where they begin
@@ -148,12 +173,12 @@ module _ (h : Head) (len packet store : List ℕ) (os : List Order) (dst : List 
 
   -- ---- and end
   pub turns-left : turns (order_report (part turns-1)).number turns-1 ≡ turns-2
-  turns-left = ap (λ (c : Cutting). turns (order_report c).number turns-1) (E.part-whole six frames os dst start)
+  turns-left = ap (λ (c : Cutting). turns (order_report c).number turns-1) (E.part_whole six frames os dst start)
 
   pub told : (order_report (part turns-1) ≡ (out_many rp store os dst).report) × (list turns-2 ≡ (out_many rp store os dst).orders)
       × (bytes turns-2 ≡ (out_many rp store os dst).bytes)
   unfolding out_many
   told =
       let left = E.part_left six frames os dst start before.0 before.1.0 in
-      let all = ap order_report (E.part-whole six frames os dst start) ∙ leaves_report os dst (E.whole six frames os dst start) in
+      let all = ap order_report (E.part_whole six frames os dst start) ∙ leaves_report os dst (E.whole six frames os dst start) in
       (all, left.0, left.1)
