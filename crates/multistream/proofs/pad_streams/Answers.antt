@@ -1,5 +1,4 @@
 -- `multistream::pad_streams` meets its contract: by what reading the first streams answers.
--- the first streams are within the packet
 use Prim.Native.Nat.{◌-◌}
 use native.Mathlib.Omega.{arith}
 use mathlib.Core.Path.{refl, sym, ap, ◌∙◌}

@@ -1,5 +1,4 @@
 -- `multistream::pass_streams` meets its contract. The invariant: the bytes so far with the streams from here on are all of them.
--- a place within the packet
 use Prim.Native.Nat.{◌+◌}
 use mathlib.Core.Path.{◌∙◌}
 use mathlib.Core.Bool.{true}

@@ -1,6 +1,4 @@
 -- `multistream::repack_stream` meets its contract: the stream is read, and its frames are rewritten further to the front.
--- where the buffer's bytes are known, and the entry
--- what the rewrite leaves, which ends before the unread streams
 use Prim.Native.Nat.{◌-◌, ◌≤◌, ◌+◌}
 use native.Mathlib.Omega.{arith}
 use mathlib.Core.Path.{◌≡◌, sym}

@@ -1,5 +1,4 @@
 -- `multistream::unpad_streams` meets its contract: all streams are read, and then rewritten.
--- what was written is no longer than the packet was
 use Prim.Native.Nat.{◌-◌}
 use native.Mathlib.Omega.{arith}
 use mathlib.Core.Path.{refl, sym, ap, ◌∙◌}
