@@ -21,7 +21,7 @@ use borrow.Author.Tests.{lt-ltb, le-ltb, lt-leb, ltb-true, ltb-false, eqb-true, 
 use Rattle.laws.specs.Bytes.{Bytes}
 use Rattle.laws.proofs.Bytes.{bytes_take, bytes_drop}
 use Rattle.laws.proofs.Never.{never, by_test}
-use Rattle.opus_defines.specs.Outcome.{Effect, refusal, wrote, written, into_room}
+use Rattle.opus_defines.specs.Outcome.{Effect, refusal, written, into_room}
 use Rattle.opus_defines.specs.declared.Refusal.TheVariants.{BadArg, BufferTooSmall, InvalidPacket}
 use Rattle.opus_format.specs.Frames.{lengths, joined, cut, total}
 use Rattle.opus_format.specs.Format.{Spells}

@@ -1,10 +1,8 @@
 -- `aveluafi::reading::aveluafi_packet_parse` meets its contract: each arm is the record of what was read, and any other packet is read whole.
 -- the packet is a list of bytes
--- a packet that breaks a rule
 -- code 3, of a packet that is not too long
 -- the record was built behind the lengths
 -- any other packet of code 3
--- what was read is what is to be answered
 use native.Mathlib.Omega.{arith}
 use mathlib.Core.Path.{◌≡◌, sym, ap, ◌∙◌}
 use mathlib.Core.Bool.{false}
@@ -125,12 +123,15 @@ read_packet-p-requires c =
 
 pub whole_packet-requires : goal.whole_packet-requires
 whole_packet-requires c =
-    omega (arith, read_few false c.args.«data».now c.read_packet-p.result c.read_packet-p.new.lengths (record { byte = λ i. (c.type_inv.«data» i).fits }) (answered (goal.at.whole_packet-requires c).After-read_packet-p))
+    omega (arith, read_few false c.args.«data».now c.read_packet-p.result c.read_packet-p.new.lengths
+      (record { byte = λ i. (c.type_inv.«data» i).fits }) (answered (goal.at.whole_packet-requires c).After-read_packet-p))
 
 pub returns-in_default : goal.returns-in_default
 returns-in_default c =
-    c.whole_packet.ensures ∙ record_read false c.args.«data».now c.read_packet-p.result c.read_packet-p.new.lengths (answered (goal.at.returns-in_default c).After-read_packet-p) c.in_default.is
+    c.whole_packet.ensures ∙ record_read false c.args.«data».now c.read_packet-p.result c.read_packet-p.new.lengths
+      (answered (goal.at.returns-in_default c).After-read_packet-p) c.in_default.is
 
 pub returns : goal.returns
 returns c =
-    c.no_packet-2.ensures ∙ record_unread false c.args.«data».now c.read_packet-p.result c.read_packet-p.new.lengths (answered (goal.at.returns c).After-read_packet-p) c.in-Refused.is
+    c.no_packet-2.ensures ∙ record_unread false c.args.«data».now c.read_packet-p.result c.read_packet-p.new.lengths
+      (answered (goal.at.returns c).After-read_packet-p) c.in-Refused.is
