@@ -4,6 +4,7 @@
 --     Measures, measures           a turn of the first pass: what `next_order` asks
 --     Writes, writes               a turn of the second one: what `put_order` asks, and what its answer and its bytes come to
 --     part-0, .., told             where the passes begin and end
+--     counted_1, counted_2, ended   the same, of what the code counts
 -- Assumes nothing.
 use Prim.Native.Nat.{ℕ, suc, ◌+◌, ◌-◌, ◌<◌, ◌≤◌, ◌^◌}
 use native.Mathlib.Omega.{arith}
@@ -99,12 +100,13 @@ module _ (h : Head) (len packet store : List ℕ) (os : List Order) (dst : List 
     pub few : Few (order_report (part i)) (length dst) i
     pub roomy : least_store ≤ length store
     pub counts : (t : ℕ) → (order_report (part i)).number ≡ pos t → done (part i) ≡ i
-    pub goes_on : next six frames (length dst) (get_or os i past).begin (get_or os i past).end (part i) ≡ part (suc i)
+    pub goes_on : next six frames (length dst) (get_or os i past).begin (get_or os i past).end (part i) ≡ part (i + 1)
 
   pub measures : (i : ℕ) → i < turns-1 → Measures i
   measures i small =
       let on = opened i small in
       let within : i < length os = omega (arith, small, turns-few) in
+      let next_of : suc i ≡ i + 1 = omega arith in
       let fits = subst (λ (c : Cutting). Fits (length dst) i (each six frames (length dst) (take i os) c)) (sym on.fresh)
       (part-fits six frames (length dst) os i (omega (arith, within))) in
       record {
@@ -113,7 +115,7 @@ module _ (h : Head) (len packet store : List ℕ) (os : List Order) (dst : List 
         few = (omega (arith, within, on.few), on.small, fits-natural (length dst) i (part i) fits);
         roomy = on.roomy;
         counts = fits-done (length dst) i (part i) fits;
-        goes_on = E.part-next six frames os dst start i within;
+        goes_on = E.part-next six frames os dst start i within ∙ ap part next_of;
       }
 
   -- ---- a turn of the second pass
@@ -128,11 +130,11 @@ module _ (h : Head) (len packet store : List ℕ) (os : List Order) (dst : List 
     pub near : place k < 2 ^ 32
     -- the answer r
     pub sum : (r : ℕ) → Answers h len store (order k).begin (order k).end (bytes k) (place k) r → place k + r < 2 ^ 32
-    pub on-place : (r : ℕ) → Answers h len store (order k).begin (order k).end (bytes k) (place k) r → place k + r ≡ place (suc k)
+    pub on-place : (r : ℕ) → Answers h len store (order k).begin (order k).end (bytes k) (place k) r → place k + r ≡ place (k + 1)
     pub on_list : (r : ℕ) → Answers h len store (order k).begin (order k).end (bytes k) (place k) r
-        → set (list k) k (with_length r (order k)) ≡ list (suc k)
+        → set (list k) k (with_length r (order k)) ≡ list (k + 1)
     -- the bytes zs
-    pub on-bytes : (zs : List ℕ) → Leaves h len store (order k).begin (order k).end (bytes k) (place k) zs → zs ≡ bytes (suc k)
+    pub on-bytes : (zs : List ℕ) → Leaves h len store (order k).begin (order k).end (bytes k) (place k) zs → zs ≡ bytes (k + 1)
 
   pub writes : (k : ℕ) → k < turns-2 → Writes k
   writes k small =
@@ -141,6 +143,7 @@ module _ (h : Head) (len packet store : List ℕ) (os : List Order) (dst : List 
       let on = opened k one in
       let t = E.turn six frames os dst start on.fresh k small in
       let before : place k ≤ length (bytes k) = E.place_within six frames os dst start k within t in
+      let next_of : suc k ≡ k + 1 = omega arith in
       let fits = E.put_fits six frames os dst start k within t in
       let is = E.put_length six frames os dst start k within t (drop (place k) (bytes k)) in
       record {
@@ -150,9 +153,9 @@ module _ (h : Head) (len packet store : List ℕ) (os : List Order) (dst : List 
         taken = E.put_taken six frames os dst start k within t;
         near = omega (arith, before, long-bytes k, on.small);
         sum = λ r e. omega (arith, e ∙ is, fits, on.small);
-        on-place = λ r e. ap (λ (j : ℕ). place k + j) (e ∙ is) ∙ E.put_place six frames os dst start k within t;
-        on_list = λ r e. ap (λ (j : ℕ). set (list k) k (with_length j (order k))) (e ∙ is) ∙ E.put_list six frames os dst start k within t;
-        on-bytes = λ zs e. e ∙ E.put_bytes six frames os dst start k within t;
+        on-place = λ r e. ap (λ (j : ℕ). place k + j) (e ∙ is) ∙ (E.put_place six frames os dst start k within t ∙ ap place next_of);
+        on_list = λ r e. ap (λ (j : ℕ). set (list k) k (with_length j (order k))) (e ∙ is) ∙ (E.put_list six frames os dst start k within t ∙ ap list next_of);
+        on-bytes = λ zs e. e ∙ (E.put_bytes six frames os dst start k within t ∙ ap bytes next_of);
       }
 
   -- ---- where they begin
@@ -182,3 +185,20 @@ module _ (h : Head) (len packet store : List ℕ) (os : List Order) (dst : List 
       let left = E.part_left six frames os dst start before.0 before.1.0 in
       let all = ap order_report (E.part_whole six frames os dst start) ∙ leaves_report os dst (E.whole six frames os dst start) in
       (all, left.0, left.1)
+
+  -- ---- as the code counts them
+  pub counted_1 : {r : OrderReport} {n : ℕ} → r ≡ order_report start → n ≡ turns r.number (length os) → n ≡ turns-1
+  counted_1 e f = f ∙ ap (λ (r : OrderReport). turns r.number (length os)) e
+
+  pub counted_2 : {m : OrderReport} {i n all : ℕ} → n ≡ turns-1 → i ≡ n → m ≡ order_report (part i) → all ≡ turns m.number n → all ≡ turns-2
+  counted_2 {m} {i} {n} {all} w e r a =
+      a
+      ∙ (ap (λ (s : OrderReport). turns s.number n) r
+      ∙ (ap (λ (j : ℕ). turns (order_report (part j)).number n) (e ∙ w)
+      ∙ (ap (λ (j : ℕ). turns (order_report (part turns-1)).number j) w ∙ turns-left)))
+
+  pub ended : {m : OrderReport} {l : List Order} {d : List ℕ} {i k : ℕ} → i ≡ turns-1 → k ≡ turns-2
+      → m ≡ order_report (part i) → l ≡ list k → d ≡ bytes k
+      → (m ≡ (out_many rp store os dst).report) × (l ≡ (out_many rp store os dst).orders) × (d ≡ (out_many rp store os dst).bytes)
+  ended e f r s b =
+      (r ∙ (ap (λ (j : ℕ). order_report (part j)) e ∙ told.0), s ∙ (ap list f ∙ told.1), b ∙ (ap bytes f ∙ told.2))

@@ -5,6 +5,7 @@ use opus_defines::Verdict;
 use repacketizer::Added;
 use replay_io::input::{Cursor, Line, Taken, fields};
 use replay_io::output::{number, put, report};
+use std::io::Stdin;
 
 // How many adds follow; the packet of an ordinary add; a flag and the packet of an add that is strict where the flag is set.
 const COUNT: u64 = 0x1000000000;
@@ -105,6 +106,7 @@ fn added(
 
 // An add by its form: the flag for a strict one, where there is one, and the packet.
 pub fn add(
+    from: &mut Stdin,
     input: &mut [u8],
     work: &mut [u8],
     store: &mut [u8],
@@ -114,13 +116,14 @@ pub fn add(
     places: bool,
 ) -> Adding {
     let mut ns = [0usize; 10];
-    let Taken::Whole(d) = fields(input, s.next, form, &mut ns, work) else {
+    let Taken::Whole(d) = fields(from, input, s.next, form, &mut ns, work) else {
         return no_more(s);
     };
     added(work, ns[1], store, out, s, d, ns[0] != 0, places)
 }
 
 fn add_all(
+    from: &mut Stdin,
     input: &mut [u8],
     work: &mut [u8],
     store: &mut [u8],
@@ -133,7 +136,7 @@ fn add_all(
     let mut s = start;
     let mut left = n;
     while 0 < left {
-        s = add(input, work, store, out, s, form, places);
+        s = add(from, input, work, store, out, s, form, places);
         if !s.whole {
             return s;
         }
@@ -144,6 +147,7 @@ fn add_all(
 
 // How many adds follow, and those.
 pub fn adds(
+    from: &mut Stdin,
     input: &mut [u8],
     work: &mut [u8],
     store: &mut [u8],
@@ -153,12 +157,12 @@ pub fn adds(
     places: bool,
 ) -> Adding {
     let mut ns = [0usize; 10];
-    let Taken::Whole(d) = fields(input, start.next, COUNT, &mut ns, work) else {
+    let Taken::Whole(d) = fields(from, input, start.next, COUNT, &mut ns, work) else {
         return no_more(start);
     };
     let mut s = start;
     s.next = d;
-    add_all(input, work, store, out, s, form, places, ns[0])
+    add_all(from, input, work, store, out, s, form, places, ns[0])
 }
 
 // The line up to the collector and its store behind the adds, with the packet numbers where they are asked for.
@@ -176,6 +180,7 @@ pub fn told(out: &mut [u8], s: Adding, store: &[u8], numbered: bool) -> Line {
 
 // The adds, and the line behind them.
 pub fn adds_told(
+    from: &mut Stdin,
     input: &mut [u8],
     work: &mut [u8],
     store: &mut [u8],
@@ -183,6 +188,6 @@ pub fn adds_told(
     start: Adding,
     form: u64,
 ) -> Line {
-    let s = adds(input, work, store, out, start, form, true);
+    let s = adds(from, input, work, store, out, start, form, true);
     told(out, s, store, false)
 }

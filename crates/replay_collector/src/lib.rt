@@ -12,6 +12,7 @@ use repacketizer_out::by_number::opus_repacketizer_out_packet;
 use replay_io::input::{Cursor, Line, Taken, fields, signed};
 use replay_io::output::{buffer, number, number_and_buffer, text};
 use replay_io::room::unset;
+use std::io::Stdin;
 
 // Of an output: self-delimited or not, padded or not, begin, end and room; packet number and room.
 const RANGE: u64 = 0x1144A00000;
@@ -57,6 +58,7 @@ fn collected(
 
 // The case behind its order.
 fn collect_behind(
+    from: &mut Stdin,
     input: &mut [u8],
     c: Cursor,
     work: &mut [u8],
@@ -65,7 +67,7 @@ fn collect_behind(
     at: usize,
     ns: &[usize; 10],
 ) -> Line {
-    let s = adds(input, work, store, out, from_empty(c, at), ADD, false);
+    let s = adds(from, input, work, store, out, from_empty(c, at), ADD, false);
     if !s.whole {
         return Line::Malformed;
     }
@@ -75,6 +77,7 @@ fn collect_behind(
 }
 
 pub fn collect_case(
+    from: &mut Stdin,
     input: &mut [u8],
     c: Cursor,
     work: &mut [u8],
@@ -83,10 +86,10 @@ pub fn collect_case(
     at: usize,
 ) -> Line {
     let mut ns = [0usize; 10];
-    let Taken::Whole(d) = fields(input, c, RANGE, &mut ns, work) else {
+    let Taken::Whole(d) = fields(from, input, c, RANGE, &mut ns, work) else {
         return Line::Malformed;
     };
-    collect_behind(input, d, work, store, out, at, &ns)
+    collect_behind(from, input, d, work, store, out, at, &ns)
 }
 
 // ---- kinds 17 and 18
@@ -97,6 +100,7 @@ fn add_form(kind: usize) -> u64 {
 }
 
 pub fn places_case(
+    from: &mut Stdin,
     input: &mut [u8],
     c: Cursor,
     work: &mut [u8],
@@ -105,12 +109,12 @@ pub fn places_case(
     at: usize,
     kind: usize,
 ) -> Line {
-    let s = state_at(input, c, store, FRAME);
+    let s = state_at(from, input, c, store, FRAME);
     if !s.whole {
         return Line::Malformed;
     }
     let start = from_state(s, s.behind, at);
-    adds_told(input, work, store, out, start, add_form(kind))
+    adds_told(from, input, work, store, out, start, add_form(kind))
 }
 
 // ---- kind 19
@@ -154,6 +158,7 @@ fn packet_told(
 
 // The adds, which begin where the case and its line go on, and the output.
 fn packet_from(
+    from: &mut Stdin,
     input: &mut [u8],
     work: &mut [u8],
     store: &mut [u8],
@@ -162,12 +167,13 @@ fn packet_from(
     k: usize,
     room: usize,
 ) -> Line {
-    let s = adds(input, work, store, out, start, EITHER_ADD, true);
+    let s = adds(from, input, work, store, out, start, EITHER_ADD, true);
     packet_told(out, s, store, k, room, work)
 }
 
 // The case behind its collector.
 fn packet_behind(
+    from: &mut Stdin,
     input: &mut [u8],
     work: &mut [u8],
     store: &mut [u8],
@@ -176,13 +182,23 @@ fn packet_behind(
     s: State,
 ) -> Line {
     let mut ns = [0usize; 10];
-    let Taken::Whole(c) = fields(input, s.behind, PACKET, &mut ns, work) else {
+    let Taken::Whole(c) = fields(from, input, s.behind, PACKET, &mut ns, work) else {
         return Line::Malformed;
     };
-    packet_from(input, work, store, out, from_state(s, c, at), ns[0], ns[1])
+    packet_from(
+        from,
+        input,
+        work,
+        store,
+        out,
+        from_state(s, c, at),
+        ns[0],
+        ns[1],
+    )
 }
 
 pub fn packet_case(
+    from: &mut Stdin,
     input: &mut [u8],
     c: Cursor,
     work: &mut [u8],
@@ -190,11 +206,11 @@ pub fn packet_case(
     out: &mut [u8],
     at: usize,
 ) -> Line {
-    let s = state_at(input, c, store, NUMBERED_FRAME);
+    let s = state_at(from, input, c, store, NUMBERED_FRAME);
     if !s.whole {
         return Line::Malformed;
     }
-    packet_behind(input, work, store, out, at, s)
+    packet_behind(from, input, work, store, out, at, s)
 }
 
 // ---- kind 20
@@ -222,18 +238,20 @@ fn range_told(
 
 // An add, and the line behind it.
 fn add_told(
+    from: &mut Stdin,
     input: &mut [u8],
     work: &mut [u8],
     store: &mut [u8],
     out: &mut [u8],
     start: Adding,
 ) -> Line {
-    let s = add(input, work, store, out, start, ADD, true);
+    let s = add(from, input, work, store, out, start, ADD, true);
     told(out, s, store, true)
 }
 
 // The calls, in their order.
 fn range_and_add(
+    from: &mut Stdin,
     input: &mut [u8],
     c: Cursor,
     work: &mut [u8],
@@ -244,11 +262,12 @@ fn range_and_add(
     ns: &[usize; 10],
 ) -> Line {
     let next = range_told(out, at, s, store, ns, work);
-    add_told(input, work, store, out, from_state(s, c, next))
+    add_told(from, input, work, store, out, from_state(s, c, next))
 }
 
 // The case behind its collector.
 fn range_behind(
+    from: &mut Stdin,
     input: &mut [u8],
     work: &mut [u8],
     store: &mut [u8],
@@ -257,13 +276,14 @@ fn range_behind(
     s: State,
 ) -> Line {
     let mut ns = [0usize; 10];
-    let Taken::Whole(c) = fields(input, s.behind, RANGE, &mut ns, work) else {
+    let Taken::Whole(c) = fields(from, input, s.behind, RANGE, &mut ns, work) else {
         return Line::Malformed;
     };
-    range_and_add(input, c, work, store, out, at, s, &ns)
+    range_and_add(from, input, c, work, store, out, at, s, &ns)
 }
 
 pub fn range_case(
+    from: &mut Stdin,
     input: &mut [u8],
     c: Cursor,
     work: &mut [u8],
@@ -271,9 +291,9 @@ pub fn range_case(
     out: &mut [u8],
     at: usize,
 ) -> Line {
-    let s = state_at(input, c, store, NUMBERED_FRAME);
+    let s = state_at(from, input, c, store, NUMBERED_FRAME);
     if !s.whole {
         return Line::Malformed;
     }
-    range_behind(input, work, store, out, at, s)
+    range_behind(from, input, work, store, out, at, s)
 }

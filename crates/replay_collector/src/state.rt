@@ -4,6 +4,7 @@ use opus_toc::Samples8k;
 use replay_io::input::{Cursor, Taken, fields, low_8, low_16};
 use replay_io::output::{buffer, decimal, field, sizes, spaced, text};
 use replay_io::room::{UNSET, unset_behind};
+use std::io::Stdin;
 
 // TOC byte, count, frame size and how many lengths there are; a frame's length, without and with the number of its packet; the store's bytes and its front.
 const HEAD: u64 = 0x1221000000;
@@ -34,6 +35,7 @@ fn no_state(c: Cursor) -> State {
 
 // The first n lengths and packet numbers, by the form of each pair.
 fn frames(
+    from: &mut Stdin,
     input: &mut [u8],
     c: Cursor,
     store: &mut [u8],
@@ -49,7 +51,7 @@ fn frames(
         if n <= i {
             return Taken::Whole(next);
         }
-        let Taken::Whole(d) = fields(input, next, form, &mut ns, store) else {
+        let Taken::Whole(d) = fields(from, input, next, form, &mut ns, store) else {
             return Taken::Cut;
         };
         len[i] = low_16(ns[0]);
@@ -61,9 +63,15 @@ fn frames(
 }
 
 // The store's bytes behind a collector: the front is given, the others are unset.
-fn store_at(input: &mut [u8], c: Cursor, store: &mut [u8], rp: OpusRepacketizer) -> State {
+fn store_at(
+    from: &mut Stdin,
+    input: &mut [u8],
+    c: Cursor,
+    store: &mut [u8],
+    rp: OpusRepacketizer,
+) -> State {
     let mut ns = [0usize; 10];
-    let Taken::Whole(d) = fields(input, c, STORE, &mut ns, store) else {
+    let Taken::Whole(d) = fields(from, input, c, STORE, &mut ns, store) else {
         return no_state(c);
     };
     let size = ns[0];
@@ -81,10 +89,17 @@ fn store_at(input: &mut [u8], c: Cursor, store: &mut [u8], rp: OpusRepacketizer)
 }
 
 // A collector whose TOC byte, count, frame size and number of lengths are read.
-fn state_from(input: &mut [u8], c: Cursor, store: &mut [u8], ns: &[usize; 10], form: u64) -> State {
+fn state_from(
+    from: &mut Stdin,
+    input: &mut [u8],
+    c: Cursor,
+    store: &mut [u8],
+    ns: &[usize; 10],
+    form: u64,
+) -> State {
     let mut len = [0u16; 48];
     let mut packet = [0u8; 48];
-    let Taken::Whole(d) = frames(input, c, store, &mut len, &mut packet, ns[3], form) else {
+    let Taken::Whole(d) = frames(from, input, c, store, &mut len, &mut packet, ns[3], form) else {
         return no_state(c);
     };
     let rp = OpusRepacketizer {
@@ -94,19 +109,25 @@ fn state_from(input: &mut [u8], c: Cursor, store: &mut [u8], ns: &[usize; 10], f
         len,
         packet,
     };
-    store_at(input, d, store, rp)
+    store_at(from, input, d, store, rp)
 }
 
 // `form` is that of a frame.
-pub fn state_at(input: &mut [u8], c: Cursor, store: &mut [u8], form: u64) -> State {
+pub fn state_at(
+    from: &mut Stdin,
+    input: &mut [u8],
+    c: Cursor,
+    store: &mut [u8],
+    form: u64,
+) -> State {
     let mut ns = [0usize; 10];
-    let Taken::Whole(d) = fields(input, c, HEAD, &mut ns, store) else {
+    let Taken::Whole(d) = fields(from, input, c, HEAD, &mut ns, store) else {
         return no_state(c);
     };
     if 48 < ns[3] {
         return no_state(c);
     }
-    state_from(input, d, store, &ns, form)
+    state_from(from, input, d, store, &ns, form)
 }
 
 // ---- told

@@ -4,6 +4,7 @@
 use replay_io::input::{Cursor, Line, Taken, fields, low_16, signed};
 use replay_io::output::report_and_buffer;
 use replay_io::room::unset;
+use std::io::Stdin;
 
 // The room and how many packets there are; the length of one; all packets.
 const JOIN: u64 = 0xA200000000;
@@ -16,6 +17,7 @@ const PACKETS: u64 = 0xB000000000;
 
 // Takes n lengths off the input to the front of `lengths`; more than that holds are malformed.
 fn lengths_at(
+    from: &mut Stdin,
     input: &mut [u8],
     c: Cursor,
     work: &mut [u8],
@@ -29,7 +31,7 @@ fn lengths_at(
         if lengths.len() <= i {
             return Taken::Cut;
         }
-        let Taken::Whole(d) = fields(input, next, LENGTH, &mut ns, work) else {
+        let Taken::Whole(d) = fields(from, input, next, LENGTH, &mut ns, work) else {
             return Taken::Cut;
         };
         lengths[i] = low_16(ns[0]);
@@ -66,6 +68,7 @@ fn joined(
 
 // The case behind its room and the number of its lengths.
 fn join_behind(
+    from: &mut Stdin,
     input: &mut [u8],
     c: Cursor,
     work: &mut [u8],
@@ -76,17 +79,18 @@ fn join_behind(
     n: usize,
 ) -> Line {
     let mut lengths = [0u16; 1024];
-    let Taken::Whole(d) = lengths_at(input, c, work, &mut lengths, n) else {
+    let Taken::Whole(d) = lengths_at(from, input, c, work, &mut lengths, n) else {
         return Line::Malformed;
     };
     let mut ns = [0usize; 10];
-    let Taken::Whole(e) = fields(input, d, PACKETS, &mut ns, work) else {
+    let Taken::Whole(e) = fields(from, input, d, PACKETS, &mut ns, work) else {
         return Line::Malformed;
     };
     Line::Is(e, joined(out, at, work, ns[0], &lengths, n, store, room))
 }
 
 pub fn join_case(
+    from: &mut Stdin,
     input: &mut [u8],
     c: Cursor,
     work: &mut [u8],
@@ -95,10 +99,10 @@ pub fn join_case(
     at: usize,
 ) -> Line {
     let mut ns = [0usize; 10];
-    let Taken::Whole(d) = fields(input, c, JOIN, &mut ns, work) else {
+    let Taken::Whole(d) = fields(from, input, c, JOIN, &mut ns, work) else {
         return Line::Malformed;
     };
-    join_behind(input, d, work, store, out, at, ns[0], ns[1])
+    join_behind(from, input, d, work, store, out, at, ns[0], ns[1])
 }
 
 // ---- a stream taken out

@@ -1,5 +1,4 @@
 -- `cut_orders::begin_orders` meets its contract.
-use borrow.Author.Rules.{rules}
 use mathlib.Core.Path.{sym, ◌∙◌}
 use Rattle.cut_orders.proofs.begin_orders.Goals as goal
 

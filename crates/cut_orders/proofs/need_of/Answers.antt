@@ -54,27 +54,31 @@ pub returns-in_default : goal.returns-in_default
 returns-in_default c =
     let negative = counted c.args.begin c.ranges.begin c.count_of.ensures.is c.in_default.is in record {
       most = omega arith;
-      number = λ store dst k. rw (effect_before (upper_six c.args.h.toc) (held (bare c.args.h c.args.len.now) store) c.args.room c.args.begin c.args.end negative) }
+      number = λ store dst k. rw (effect_before (upper_six c.args.h.toc) (held (bare c.args.h c.args.len.now) store) c.args.room c.args.begin c.args.end negative);
+    }
 
 pub returns-in_default-count_of : goal.returns-in_default-count_of
 returns-in_default-count_of c =
     let negative = counted c.args.end c.ranges.end c.count_of-2.ensures.is c.in_default-count_of.is in record {
       most = omega arith;
-      number = λ store dst k. rw (effect_under (upper_six c.args.h.toc) (held (bare c.args.h c.args.len.now) store) c.args.room c.args.begin c.args.end negative) }
+      number = λ store dst k. rw (effect_under (upper_six c.args.h.toc) (held (bare c.args.h c.args.len.now) store) c.args.room c.args.begin c.args.end negative);
+    }
 
 pub returns-then-e-b : goal.returns-then-e-b
 returns-then-e-b c =
     record {
       most = omega arith;
       number = λ store dst j. rw (effect_none (upper_six c.args.h.toc) (held (bare c.args.h c.args.len.now) store) c.args.room (begins (goal.at.returns-then-e-b c).In-Is-count_of) (ends (goal.at.returns-then-e-b c).In-Is-count_of)
-          c.if-e-b.true) }
+          c.if-e-b.true);
+    }
 
 pub returns-then-wide-e : goal.returns-then-wide-e
 returns-then-wide-e c =
     let past : c.args.h.nb_frames < c.in-Is-count_of.e = omega (arith, c.wide.ensures.0) in record {
       most = omega arith;
       number = λ store dst j.
-          rw (held_past (bare c.args.h c.args.len.now) (holds (goal.at.returns-then-wide-e c).Start) store j c.args.room (begins (goal.at.returns-then-wide-e c).In-Is-count_of) (ends (goal.at.returns-then-wide-e c).In-Is-count_of) c.if-e-b.false past) }
+          rw (held_past (bare c.args.h c.args.len.now) (holds (goal.at.returns-then-wide-e c).Start) store j c.args.room (begins (goal.at.returns-then-wide-e c).In-Is-count_of) (ends (goal.at.returns-then-wide-e c).In-Is-count_of) c.if-e-b.false past);
+    }
 
 pub sums_of-m-requires : goal.sums_of-m-requires
 sums_of-m-requires c =
@@ -91,7 +95,8 @@ returns-then-room-need c =
       most = omega arith;
       number = λ store dst j.
           rw (need_short (bare c.args.h c.args.len.now) (holds (goal.at.returns-then-room-need c).Start) store j c.args.room (begins (goal.at.returns-then-room-need c).In-Is-count_of) (ends (goal.at.returns-then-room-need c).In-Is-count_of) c.if-e-b.false (within (goal.at.returns-then-room-need c).Else-wide-e)
-          c.sums_of-m.ensures c.compact_bytes-need.ensures c.if-room-need.true) }
+          c.sums_of-m.ensures c.compact_bytes-need.ensures c.if-room-need.true);
+    }
 
 pub returns : goal.returns
 returns c =
@@ -99,4 +104,5 @@ returns c =
       most = c.if-room-need.false;
       number = λ store dst j.
           rw (need_fits (bare c.args.h c.args.len.now) (holds (goal.at.returns c).Start) store j c.args.room (begins (goal.at.returns c).In-Is-count_of) (ends (goal.at.returns c).In-Is-count_of) c.if-e-b.false (within (goal.at.returns c).Else-wide-e)
-          c.sums_of-m.ensures c.compact_bytes-need.ensures c.if-room-need.false) }
+          c.sums_of-m.ensures c.compact_bytes-need.ensures c.if-room-need.false);
+    }

@@ -50,7 +50,8 @@ put_range-n-requires c =
       collector = (long (goal.at.put_range-n-requires c).After-put_range-arg-1, c.requires.collector);
       range = (r.0, omega (arith, r.1, few (goal.at.put_range-n-requires c).After-put_range-arg-1));
       store = c.requires.buffers.0;
-      room = passed_room (upper_six c.args.h.toc) frames c.ranges.begin c.ranges.end c.args.«data».now c.args.at (takes (goal.at.put_range-n-requires c).After-put_range-arg-1) }
+      room = passed_room (upper_six c.args.h.toc) frames c.ranges.begin c.ranges.end c.args.«data».now c.args.at (takes (goal.at.put_range-n-requires c).After-put_range-arg-1);
+    }
 
 pub overflow_cast-result : goal.overflow_cast-result
 overflow_cast-result c =

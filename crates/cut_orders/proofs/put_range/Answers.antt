@@ -37,7 +37,8 @@ put_compact-requires c =
     let p = part (goal.at.put_compact-requires c).Start in record {
       some = (omega (arith, p.count, c.requires.range.0), omega (arith, p.count, p.few), p.small);
       block = omega (arith, from c, p.block, c.requires.store);
-      room = range_room p c.args.store.now (from c) (upper_six c.args.h.toc) c.requires.room }
+      room = range_room p c.args.store.now (from c) (upper_six c.args.h.toc) c.requires.room;
+    }
 
 pub returns : goal.returns
 returns c =
