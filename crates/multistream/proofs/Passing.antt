@@ -12,7 +12,7 @@ use native.Mathlib.Omega.{arith}
 use mathlib.Core.Path.{◌≡◌, refl, sym, ap, ◌∙◌}
 use mathlib.Core.List.{List, []}
 use mathlib.Core.Bool.{Bool, true, false}
-use lib.ListN.{length, take, drop, length-drop}
+use lib.ListN.{get_or, length, take, drop, length-drop}
 use lib.Seq.{drop-drop}
 use borrow.Author.Rules.{part_to_end}
 use Rattle.laws.specs.Bytes.{Bytes}
@@ -193,3 +193,8 @@ all-last (suc k) s at h = go (λ t. all-last k t) (read true s) h
         ∙ (further_verdict taken (further w.0 last)
         ∙ (ap (shifted_verdict taken) behind
         ∙ sym (ahead_verdict (compact true (upper_six toc) (cut ns (drop first s))) taken (repack_streams k (drop taken s))))))
+
+-- the same where the elements are known one by one, for a packet that is not too long: the place that is handed on fits
+pub reach_fits : (s : List ℕ) (at : ℕ) {x : Passed} → x ≡ pass_by (read true (take (length s - at) (drop at s))) → at ≤ length s
+    → length s ≤ 65535 → ((i : ℕ) → get_or s i 0 < 256) → at + reach x < 65536
+reach_fits s at e h most byte = omega (arith, reach_lent true s at (record { byte = byte }) h e)

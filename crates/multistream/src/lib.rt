@@ -49,6 +49,7 @@ fn further_on(p: Passed, by: usize) -> Passed
 }
 
 // Reads the first k streams, which are self-delimited.
+#[tactic(auto, using(crate::proofs::Passing::reach_fits))]
 pub fn pass_streams(data: &[u8], k: usize) -> Passed
     requires { length «data».now ≤ 65535 }
     ensures { result ≡ pass_streams k «data».now }

@@ -227,7 +227,8 @@ module _ (toc count n : ℕ) (b : toc < 256) (e : n ≡ samples 48000 (configura
 module _ (sd : Bool) where
   -- a packet that is long enough for its count byte
   pub three_is : (d : List ℕ) → 2 ≤ length d
-      → read3 sd (length d) (get_or d 0 0) (drop 1 d) ≡ cond (lasts (upper_six (get_or d 0 0)) (get_or d 1 0 % 64)) (body sd d (get_or d 1 0 % 64)) (refused R5 1)
+      → read3 sd (length d) (get_or d 0 0) (drop 1 d) ≡ cond (lasts (upper_six (get_or d 0 0)) (get_or d 1 0 % 64)) (body sd d (get_or d 1 0 % 64))
+      (refused R5 1)
   three_is [] h = absurd (omega arith)
   three_is (toc ∷ []) h = absurd (omega arith)
   three_is (toc ∷ c ∷ s) h = refl

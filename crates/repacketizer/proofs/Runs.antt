@@ -73,7 +73,8 @@ accepted_frames s [] = refl
 accepted_frames s (a ∷ more) = go (accepted_frames (after_add s a) more) (adding s a).answer.verdict
   where
     go : frames_accepted (after_add s a) more ≡ frames_of_all (accepted_of (after_add s a) more)
-        → (v : Verdict) → frames_if v (frames_in a) ++ frames_accepted (after_add s a) more ≡ frames_of_all (accepted_if v a ++ accepted_of (after_add s a) more)
+        → (v : Verdict) → frames_if v (frames_in a) ++ frames_accepted (after_add s a) more ≡ frames_of_all
+        (accepted_if v a ++ accepted_of (after_add s a) more)
     go rest Accepted = rw rest
     go rest (Refused e) = rest
 

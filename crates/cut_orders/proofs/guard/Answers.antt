@@ -1,6 +1,4 @@
 -- `cut_orders::guard` meets its contract: by the tests of the code.
--- the collector of which the code has the head, the lengths and the numbers
--- the collector is sound
 use mathlib.Core.Path.{◌≡◌, sym, ap, ◌∙◌}
 use mathlib.Core.Bool.{true}
 use borrow.Author.Tests.{not-true, not-false}
@@ -28,20 +26,26 @@ is c =
 
 pub returns-then-not-c : goal.returns-then-not-c
 returns-then-not-c c =
-    ap order_report (begun_unsound (taken (goal.at.returns-then-not-c c).After-check-c) c.args.store c.args.room c.args.orders (sym (found (goal.at.returns-then-not-c c).After-check-c) ∙ not-true _ c.if-not-c.true))
+    ap order_report (begun_unsound (taken (goal.at.returns-then-not-c c).After-check-c) c.args.store c.args.room c.args.orders
+    (sym (found (goal.at.returns-then-not-c c).After-check-c) ∙ not-true _ c.if-not-c.true))
 
 pub returns-then-store-lt-LEAST_STORE : goal.returns-then-store-lt-LEAST_STORE
 returns-then-store-lt-LEAST_STORE c =
-    ap order_report (begun_tight (taken (goal.at.returns-then-store-lt-LEAST_STORE c).After-check-c) c.args.store c.args.room c.args.orders (is (goal.at.returns-then-store-lt-LEAST_STORE c).Else-not-c) c.if-store-lt-LEAST_STORE.true)
+    ap order_report (begun_tight (taken (goal.at.returns-then-store-lt-LEAST_STORE c).After-check-c) c.args.store c.args.room c.args.orders
+    (is (goal.at.returns-then-store-lt-LEAST_STORE c).Else-not-c) c.if-store-lt-LEAST_STORE.true)
 
 pub returns-then-room-gt-MOST_PACKET : goal.returns-then-room-gt-MOST_PACKET
 returns-then-room-gt-MOST_PACKET c =
-    ap order_report (begun_long (taken (goal.at.returns-then-room-gt-MOST_PACKET c).After-check-c) c.args.store c.args.room c.args.orders (is (goal.at.returns-then-room-gt-MOST_PACKET c).Else-not-c) c.if-store-lt-LEAST_STORE.false c.if-room-gt-MOST_PACKET.true)
+    ap order_report (begun_long (taken (goal.at.returns-then-room-gt-MOST_PACKET c).After-check-c) c.args.store c.args.room c.args.orders
+    (is (goal.at.returns-then-room-gt-MOST_PACKET c).Else-not-c) c.if-store-lt-LEAST_STORE.false c.if-room-gt-MOST_PACKET.true)
 
 pub returns-then-orders-gt-MOST_ORDERS : goal.returns-then-orders-gt-MOST_ORDERS
 returns-then-orders-gt-MOST_ORDERS c =
-    ap order_report (begun_crowded (taken (goal.at.returns-then-orders-gt-MOST_ORDERS c).After-check-c) c.args.store c.args.room c.args.orders (is (goal.at.returns-then-orders-gt-MOST_ORDERS c).Else-not-c) c.if-store-lt-LEAST_STORE.false c.if-room-gt-MOST_PACKET.false c.if-orders-gt-MOST_ORDERS.true)
+    ap order_report (begun_crowded (taken (goal.at.returns-then-orders-gt-MOST_ORDERS c).After-check-c) c.args.store c.args.room c.args.orders
+    (is (goal.at.returns-then-orders-gt-MOST_ORDERS c).Else-not-c) c.if-store-lt-LEAST_STORE.false c.if-room-gt-MOST_PACKET.false
+    c.if-orders-gt-MOST_ORDERS.true)
 
 pub returns : goal.returns
 returns c =
-    ap order_report (begun_ready (taken (goal.at.returns c).After-check-c) c.args.store c.args.room c.args.orders (is (goal.at.returns c).Else-not-c) c.if-store-lt-LEAST_STORE.false c.if-room-gt-MOST_PACKET.false c.if-orders-gt-MOST_ORDERS.false)
+    ap order_report (begun_ready (taken (goal.at.returns c).After-check-c) c.args.store c.args.room c.args.orders (is (goal.at.returns c).Else-not-c)
+    c.if-store-lt-LEAST_STORE.false c.if-room-gt-MOST_PACKET.false c.if-orders-gt-MOST_ORDERS.false)

@@ -1,6 +1,4 @@
 -- `cut_orders::need_of` meets its contract: by the tests of the code, whatever stands in the store.
--- ---- the ends of the range are numbers
--- ---- the range is within the frames held
 use Prim.Native.Nat.{ℕ, ◌≤◌, ◌<◌}
 use mathlib.Core.Path.{◌≡◌}
 use native.Mathlib.Omega.{arith}
@@ -40,7 +38,6 @@ part c =
     let r = bare c.args.h c.args.len.now in
     part_of r (holding r (search rules) c.requires.0 c.requires.1) (from c) (to c) c.if-e-b.false (within c)
 
--- `cut_orders::need_of` meets its contract: by the tests of the code, whatever stands in the store.
 byte : (c : Start) → c.args.h.toc < 256
 byte c = search rules
 
@@ -54,21 +51,24 @@ pub returns-in_default : goal.returns-in_default
 returns-in_default c =
     let negative = counted c.args.begin c.ranges.begin c.count_of.ensures.is c.in_default.is in record {
       most = omega arith;
-      number = λ store dst k. rw (effect_before (upper_six c.args.h.toc) (held (bare c.args.h c.args.len.now) store) c.args.room c.args.begin c.args.end negative);
+      number = λ store dst k. rw (effect_before (upper_six c.args.h.toc) (held (bare c.args.h c.args.len.now) store) c.args.room c.args.begin
+          c.args.end negative);
     }
 
 pub returns-in_default-count_of : goal.returns-in_default-count_of
 returns-in_default-count_of c =
     let negative = counted c.args.end c.ranges.end c.count_of-2.ensures.is c.in_default-count_of.is in record {
       most = omega arith;
-      number = λ store dst k. rw (effect_under (upper_six c.args.h.toc) (held (bare c.args.h c.args.len.now) store) c.args.room c.args.begin c.args.end negative);
+      number = λ store dst k. rw (effect_under (upper_six c.args.h.toc) (held (bare c.args.h c.args.len.now) store) c.args.room c.args.begin
+          c.args.end negative);
     }
 
 pub returns-then-e-b : goal.returns-then-e-b
 returns-then-e-b c =
     record {
       most = omega arith;
-      number = λ store dst j. rw (effect_none (upper_six c.args.h.toc) (held (bare c.args.h c.args.len.now) store) c.args.room (begins (goal.at.returns-then-e-b c).In-Is-count_of) (ends (goal.at.returns-then-e-b c).In-Is-count_of)
+      number = λ store dst j. rw (effect_none (upper_six c.args.h.toc) (held (bare c.args.h c.args.len.now) store) c.args.room
+          (begins (goal.at.returns-then-e-b c).In-Is-count_of) (ends (goal.at.returns-then-e-b c).In-Is-count_of)
           c.if-e-b.true);
     }
 
@@ -77,7 +77,8 @@ returns-then-wide-e c =
     let past : c.args.h.nb_frames < c.in-Is-count_of.e = omega (arith, c.wide.ensures.0) in record {
       most = omega arith;
       number = λ store dst j.
-          rw (held_past (bare c.args.h c.args.len.now) (holds (goal.at.returns-then-wide-e c).Start) store j c.args.room (begins (goal.at.returns-then-wide-e c).In-Is-count_of) (ends (goal.at.returns-then-wide-e c).In-Is-count_of) c.if-e-b.false past);
+          rw (held_past (bare c.args.h c.args.len.now) (holds (goal.at.returns-then-wide-e c).Start) store j c.args.room
+          (begins (goal.at.returns-then-wide-e c).In-Is-count_of) (ends (goal.at.returns-then-wide-e c).In-Is-count_of) c.if-e-b.false past);
     }
 
 pub sums_of-m-requires : goal.sums_of-m-requires
@@ -87,14 +88,17 @@ sums_of-m-requires c =
 pub compact_bytes-need-requires : goal.compact_bytes-need-requires
 compact_bytes-need-requires c =
     let p = part (goal.at.compact_bytes-need-requires c).Else-wide-e in
-    sums_few (range (from (goal.at.compact_bytes-need-requires c).Else-wide-e) (to (goal.at.compact_bytes-need-requires c).Else-wide-e) c.args.len.now) c.sums_of-m.result c.sums_of-m.ensures (omega (arith, p.count, p.few)) p.small
+    sums_few (range (from (goal.at.compact_bytes-need-requires c).Else-wide-e) (to (goal.at.compact_bytes-need-requires c).Else-wide-e)
+    c.args.len.now) c.sums_of-m.result c.sums_of-m.ensures (omega (arith, p.count, p.few)) p.small
 
 pub returns-then-room-need : goal.returns-then-room-need
 returns-then-room-need c =
     record {
       most = omega arith;
       number = λ store dst j.
-          rw (need_short (bare c.args.h c.args.len.now) (holds (goal.at.returns-then-room-need c).Start) store j c.args.room (begins (goal.at.returns-then-room-need c).In-Is-count_of) (ends (goal.at.returns-then-room-need c).In-Is-count_of) c.if-e-b.false (within (goal.at.returns-then-room-need c).Else-wide-e)
+          rw (need_short (bare c.args.h c.args.len.now) (holds (goal.at.returns-then-room-need c).Start) store j c.args.room
+          (begins (goal.at.returns-then-room-need c).In-Is-count_of) (ends (goal.at.returns-then-room-need c).In-Is-count_of) c.if-e-b.false
+          (within (goal.at.returns-then-room-need c).Else-wide-e)
           c.sums_of-m.ensures c.compact_bytes-need.ensures c.if-room-need.true);
     }
 
@@ -103,6 +107,7 @@ returns c =
     record {
       most = c.if-room-need.false;
       number = λ store dst j.
-          rw (need_fits (bare c.args.h c.args.len.now) (holds (goal.at.returns c).Start) store j c.args.room (begins (goal.at.returns c).In-Is-count_of) (ends (goal.at.returns c).In-Is-count_of) c.if-e-b.false (within (goal.at.returns c).Else-wide-e)
+          rw (need_fits (bare c.args.h c.args.len.now) (holds (goal.at.returns c).Start) store j c.args.room
+          (begins (goal.at.returns c).In-Is-count_of) (ends (goal.at.returns c).In-Is-count_of) c.if-e-b.false (within (goal.at.returns c).Else-wide-e)
           c.sums_of-m.ensures c.compact_bytes-need.ensures c.if-room-need.false);
     }

@@ -1,6 +1,4 @@
 -- `cut_orders::next_order` meets its contract.
--- the bytes so far
--- the bytes of the order
 use Prim.Native.Nat.{ℕ, ◌-◌, ◌≤◌}
 use mathlib.Core.Path.{◌≡◌, ◌∙◌}
 use mathlib.Core.List.{[]}
@@ -53,9 +51,11 @@ pub returns-in_default-a : goal.returns-in_default-a
 returns-in_default-a c =
     λ store j x h d.
     c.order_report.ensures
-    ∙ next_stops (upper_six c.args.h.toc) (held (bare c.args.h c.args.len.now) store) c.args.room c.args.begin c.args.end c.args.m (so_far (goal.at.returns-in_default-a c).In-Is) (used (goal.at.returns-in_default-a c).In-Is) []
+    ∙ next_stops (upper_six c.args.h.toc) (held (bare c.args.h c.args.len.now) store) c.args.room c.args.begin c.args.end c.args.m
+    (so_far (goal.at.returns-in_default-a c).In-Is) (used (goal.at.returns-in_default-a c).In-Is) []
     c.need_of-a.result
-    (effect_passed (upper_six c.args.h.toc) (held (bare c.args.h c.args.len.now) store) (c.args.room - so_far (goal.at.returns-in_default-a c).In-Is) c.ranges.begin c.ranges.end []
+    (effect_passed (upper_six c.args.h.toc) (held (bare c.args.h c.args.len.now) store) (c.args.room - so_far (goal.at.returns-in_default-a c).In-Is)
+    c.ranges.begin c.ranges.end []
     (c.need_of-a.ensures.number store [] j))
     x h _ c.in_default-a.is c.args.i (d (so_far (goal.at.returns-in_default-a c).In-Is) (used (goal.at.returns-in_default-a c).In-Is))
 
@@ -63,8 +63,10 @@ pub returns : goal.returns
 returns c =
     λ store j x h d.
     c.order_report-2.ensures
-    ∙ next_goes (upper_six c.args.h.toc) (held (bare c.args.h c.args.len.now) store) c.args.room c.args.begin c.args.end c.args.m (so_far (goal.at.returns c).In-Is) (used (goal.at.returns c).In-Is) []
+    ∙ next_goes (upper_six c.args.h.toc) (held (bare c.args.h c.args.len.now) store) c.args.room c.args.begin c.args.end c.args.m
+    (so_far (goal.at.returns c).In-Is) (used (goal.at.returns c).In-Is) []
     c.need_of-a.result
-    (effect_passed (upper_six c.args.h.toc) (held (bare c.args.h c.args.len.now) store) (c.args.room - so_far (goal.at.returns c).In-Is) c.ranges.begin c.ranges.end []
+    (effect_passed (upper_six c.args.h.toc) (held (bare c.args.h c.args.len.now) store) (c.args.room - so_far (goal.at.returns c).In-Is)
+    c.ranges.begin c.ranges.end []
     (c.need_of-a.ensures.number store [] j))
     x h _ c.in-Number.is c.wide.ensures.0

@@ -15,30 +15,41 @@ use Rattle.cut_orders.proofs.out_many_lent.Goals as goal
 -- ---- the first pass
 pub loop-i-init : goal.loop-i-init
 loop-i-init c =
-    record { within = omega arith; report = c.begin_orders-m.ensures ∙ ap order_report (P.part-0 c.args.h c.args.len.now c.args.packet.now c.args.store.now c.args.orders.now c.args.«data».now) }
+    record {
+      within = omega arith;
+      report = c.begin_orders-m.ensures ∙ ap order_report
+          (P.part-0 c.args.h c.args.len.now c.args.packet.now c.args.store.now c.args.orders.now c.args.«data».now);
+    }
 
 pub next_order-m-requires-clause-collector : goal.next_order-m-requires-clause-collector
 next_order-m-requires-clause-collector c =
-    let n = P.counted_1 c.args.h c.args.len.now c.args.packet.now c.args.store.now c.args.orders.now c.args.«data».now c.begin_orders-m.ensures c.turns_of-n.ensures in
-    let t = P.measures c.args.h c.args.len.now c.args.packet.now c.args.store.now c.args.orders.now c.args.«data».now c.loop-i.i (omega (arith, n, c.loop-i-test.true)) in
+    let n = P.counted_1 c.args.h c.args.len.now c.args.packet.now c.args.store.now c.args.orders.now c.args.«data».now c.begin_orders-m.ensures
+    c.turns_of-n.ensures in
+    let t = P.measures c.args.h c.args.len.now c.args.packet.now c.args.store.now c.args.orders.now c.args.«data».now c.loop-i.i
+    (omega (arith, n, c.loop-i-test.true)) in
     t.collector
 
 pub next_order-m-requires-clause-few : goal.next_order-m-requires-clause-few
 next_order-m-requires-clause-few c =
-    let n = P.counted_1 c.args.h c.args.len.now c.args.packet.now c.args.store.now c.args.orders.now c.args.«data».now c.begin_orders-m.ensures c.turns_of-n.ensures in
-    let t = P.measures c.args.h c.args.len.now c.args.packet.now c.args.store.now c.args.orders.now c.args.«data».now c.loop-i.i (omega (arith, n, c.loop-i-test.true)) in
+    let n = P.counted_1 c.args.h c.args.len.now c.args.packet.now c.args.store.now c.args.orders.now c.args.«data».now c.begin_orders-m.ensures
+    c.turns_of-n.ensures in
+    let t = P.measures c.args.h c.args.len.now c.args.packet.now c.args.store.now c.args.orders.now c.args.«data».now c.loop-i.i
+    (omega (arith, n, c.loop-i-test.true)) in
     let most = subst (λ (r : OrderReport). natural r.number ≤ length c.args.«data».now) (sym c.loop-i.invariant.report) t.few.2 in
     (t.few.0, t.few.1, most)
 
 pub loop-i-preserved : goal.loop-i-preserved
 loop-i-preserved c =
-    let n = P.counted_1 c.args.h c.args.len.now c.args.packet.now c.args.store.now c.args.orders.now c.args.«data».now c.begin_orders-m.ensures c.turns_of-n.ensures in
-    let t = P.measures c.args.h c.args.len.now c.args.packet.now c.args.store.now c.args.orders.now c.args.«data».now c.loop-i.i (omega (arith, n, c.loop-i-test.true)) in
+    let n = P.counted_1 c.args.h c.args.len.now c.args.packet.now c.args.store.now c.args.orders.now c.args.«data».now c.begin_orders-m.ensures
+    c.turns_of-n.ensures in
+    let t = P.measures c.args.h c.args.len.now c.args.packet.now c.args.store.now c.args.orders.now c.args.«data».now c.loop-i.i
+    (omega (arith, n, c.loop-i-test.true)) in
     let b : to_z w32 (of_z w32 (get_or c.args.orders.now c.loop-i.i past).begin) ≡ (get_or c.args.orders.now c.loop-i.i past).begin = search rules in
     let e : to_z w32 (of_z w32 (get_or c.args.orders.now c.loop-i.i past).end) ≡ (get_or c.args.orders.now c.loop-i.i past).end = search rules in
     let so_far = c.loop-i.invariant.report in
     let says =
-    c.next_order-m.ensures c.args.store.now t.roomy (P.part c.args.h c.args.len.now c.args.packet.now c.args.store.now c.args.orders.now c.args.«data».now c.loop-i.i) so_far
+    c.next_order-m.ensures c.args.store.now t.roomy (P.part c.args.h c.args.len.now c.args.packet.now c.args.store.now c.args.orders.now
+    c.args.«data».now c.loop-i.i) so_far
     (λ u q. t.counts u (sym (ap (λ (r : OrderReport). r.number) so_far) ∙ q)) in
     record { within = omega (arith, c.loop-i-test.true); report = says ∙ rw (b, e) (ap order_report t.goes_on) }
 
@@ -54,36 +65,48 @@ loop-k-init c =
 
 pub put_order-l-requires-clause-collector : goal.put_order-l-requires-clause-collector
 put_order-l-requires-clause-collector c =
-    let n = P.counted_1 c.args.h c.args.len.now c.args.packet.now c.args.store.now c.args.orders.now c.args.«data».now c.begin_orders-m.ensures c.turns_of-n.ensures in
+    let n = P.counted_1 c.args.h c.args.len.now c.args.packet.now c.args.store.now c.args.orders.now c.args.«data».now c.begin_orders-m.ensures
+    c.turns_of-n.ensures in
     let same : c.loop-i.i ≡ c.turns_of-n.result = omega (arith, c.loop-i-test.false, c.loop-i.invariant.within) in
-    let all = P.counted_2 c.args.h c.args.len.now c.args.packet.now c.args.store.now c.args.orders.now c.args.«data».now n same c.loop-i.invariant.report c.turns_of-all.ensures in
-    let w = P.writes c.args.h c.args.len.now c.args.packet.now c.args.store.now c.args.orders.now c.args.«data».now c.loop-k.k (omega (arith, all, c.loop-k-test.true)) in
+    let all = P.counted_2 c.args.h c.args.len.now c.args.packet.now c.args.store.now c.args.orders.now c.args.«data».now n same
+    c.loop-i.invariant.report c.turns_of-all.ensures in
+    let w = P.writes c.args.h c.args.len.now c.args.packet.now c.args.store.now c.args.orders.now c.args.«data».now c.loop-k.k
+    (omega (arith, all, c.loop-k-test.true)) in
     w.collector
 
 pub put_order-l-requires-clause-buffers : goal.put_order-l-requires-clause-buffers
 put_order-l-requires-clause-buffers c =
-    let n = P.counted_1 c.args.h c.args.len.now c.args.packet.now c.args.store.now c.args.orders.now c.args.«data».now c.begin_orders-m.ensures c.turns_of-n.ensures in
+    let n = P.counted_1 c.args.h c.args.len.now c.args.packet.now c.args.store.now c.args.orders.now c.args.«data».now c.begin_orders-m.ensures
+    c.turns_of-n.ensures in
     let same : c.loop-i.i ≡ c.turns_of-n.result = omega (arith, c.loop-i-test.false, c.loop-i.invariant.within) in
-    let all = P.counted_2 c.args.h c.args.len.now c.args.packet.now c.args.store.now c.args.orders.now c.args.«data».now n same c.loop-i.invariant.report c.turns_of-all.ensures in
-    let w = P.writes c.args.h c.args.len.now c.args.packet.now c.args.store.now c.args.orders.now c.args.«data».now c.loop-k.k (omega (arith, all, c.loop-k-test.true)) in
+    let all = P.counted_2 c.args.h c.args.len.now c.args.packet.now c.args.store.now c.args.orders.now c.args.«data».now n same
+    c.loop-i.invariant.report c.turns_of-all.ensures in
+    let w = P.writes c.args.h c.args.len.now c.args.packet.now c.args.store.now c.args.orders.now c.args.«data».now c.loop-k.k
+    (omega (arith, all, c.loop-k-test.true)) in
     rw (c.loop-k.invariant.bytes, c.loop-k.invariant.place) w.roomy
 
 pub put_order-l-requires-clause-taken : goal.put_order-l-requires-clause-taken
 put_order-l-requires-clause-taken c =
-    let n = P.counted_1 c.args.h c.args.len.now c.args.packet.now c.args.store.now c.args.orders.now c.args.«data».now c.begin_orders-m.ensures c.turns_of-n.ensures in
+    let n = P.counted_1 c.args.h c.args.len.now c.args.packet.now c.args.store.now c.args.orders.now c.args.«data».now c.begin_orders-m.ensures
+    c.turns_of-n.ensures in
     let same : c.loop-i.i ≡ c.turns_of-n.result = omega (arith, c.loop-i-test.false, c.loop-i.invariant.within) in
-    let all = P.counted_2 c.args.h c.args.len.now c.args.packet.now c.args.store.now c.args.orders.now c.args.«data».now n same c.loop-i.invariant.report c.turns_of-all.ensures in
-    let w = P.writes c.args.h c.args.len.now c.args.packet.now c.args.store.now c.args.orders.now c.args.«data».now c.loop-k.k (omega (arith, all, c.loop-k-test.true)) in
+    let all = P.counted_2 c.args.h c.args.len.now c.args.packet.now c.args.store.now c.args.orders.now c.args.«data».now n same
+    c.loop-i.invariant.report c.turns_of-all.ensures in
+    let w = P.writes c.args.h c.args.len.now c.args.packet.now c.args.store.now c.args.orders.now c.args.«data».now c.loop-k.k
+    (omega (arith, all, c.loop-k-test.true)) in
     let b : to_z w32 (of_z w32 (get_or c.loop-k.orders c.loop-k.k past).begin) ≡ (get_or c.loop-k.orders c.loop-k.k past).begin = search rules in
     let e : to_z w32 (of_z w32 (get_or c.loop-k.orders c.loop-k.k past).end) ≡ (get_or c.loop-k.orders c.loop-k.k past).end = search rules in
     λ f. rw (b, e, c.loop-k.invariant.list, c.loop-k.invariant.bytes, c.loop-k.invariant.place) (w.taken f)
 
 pub overflow_add-at : goal.overflow_add-at
 overflow_add-at c =
-    let n = P.counted_1 c.args.h c.args.len.now c.args.packet.now c.args.store.now c.args.orders.now c.args.«data».now c.begin_orders-m.ensures c.turns_of-n.ensures in
+    let n = P.counted_1 c.args.h c.args.len.now c.args.packet.now c.args.store.now c.args.orders.now c.args.«data».now c.begin_orders-m.ensures
+    c.turns_of-n.ensures in
     let same : c.loop-i.i ≡ c.turns_of-n.result = omega (arith, c.loop-i-test.false, c.loop-i.invariant.within) in
-    let all = P.counted_2 c.args.h c.args.len.now c.args.packet.now c.args.store.now c.args.orders.now c.args.«data».now n same c.loop-i.invariant.report c.turns_of-all.ensures in
-    let w = P.writes c.args.h c.args.len.now c.args.packet.now c.args.store.now c.args.orders.now c.args.«data».now c.loop-k.k (omega (arith, all, c.loop-k-test.true)) in
+    let all = P.counted_2 c.args.h c.args.len.now c.args.packet.now c.args.store.now c.args.orders.now c.args.«data».now n same
+    c.loop-i.invariant.report c.turns_of-all.ensures in
+    let w = P.writes c.args.h c.args.len.now c.args.packet.now c.args.store.now c.args.orders.now c.args.«data».now c.loop-k.k
+    (omega (arith, all, c.loop-k-test.true)) in
     let b : to_z w32 (of_z w32 (get_or c.loop-k.orders c.loop-k.k past).begin) ≡ (get_or c.loop-k.orders c.loop-k.k past).begin = search rules in
     let e : to_z w32 (of_z w32 (get_or c.loop-k.orders c.loop-k.k past).end) ≡ (get_or c.loop-k.orders c.loop-k.k past).end = search rules in
     let r = rw (b, e, c.loop-k.invariant.list, c.loop-k.invariant.bytes, c.loop-k.invariant.place) at c.put_order-l.ensures.length in
@@ -91,10 +114,13 @@ overflow_add-at c =
 
 pub loop-k-preserved : goal.loop-k-preserved
 loop-k-preserved c =
-    let n = P.counted_1 c.args.h c.args.len.now c.args.packet.now c.args.store.now c.args.orders.now c.args.«data».now c.begin_orders-m.ensures c.turns_of-n.ensures in
+    let n = P.counted_1 c.args.h c.args.len.now c.args.packet.now c.args.store.now c.args.orders.now c.args.«data».now c.begin_orders-m.ensures
+    c.turns_of-n.ensures in
     let same : c.loop-i.i ≡ c.turns_of-n.result = omega (arith, c.loop-i-test.false, c.loop-i.invariant.within) in
-    let all = P.counted_2 c.args.h c.args.len.now c.args.packet.now c.args.store.now c.args.orders.now c.args.«data».now n same c.loop-i.invariant.report c.turns_of-all.ensures in
-    let w = P.writes c.args.h c.args.len.now c.args.packet.now c.args.store.now c.args.orders.now c.args.«data».now c.loop-k.k (omega (arith, all, c.loop-k-test.true)) in
+    let all = P.counted_2 c.args.h c.args.len.now c.args.packet.now c.args.store.now c.args.orders.now c.args.«data».now n same
+    c.loop-i.invariant.report c.turns_of-all.ensures in
+    let w = P.writes c.args.h c.args.len.now c.args.packet.now c.args.store.now c.args.orders.now c.args.«data».now c.loop-k.k
+    (omega (arith, all, c.loop-k-test.true)) in
     let b : to_z w32 (of_z w32 (get_or c.loop-k.orders c.loop-k.k past).begin) ≡ (get_or c.loop-k.orders c.loop-k.k past).begin = search rules in
     let e : to_z w32 (of_z w32 (get_or c.loop-k.orders c.loop-k.k past).end) ≡ (get_or c.loop-k.orders c.loop-k.k past).end = search rules in
     let r = rw (b, e, c.loop-k.invariant.list, c.loop-k.invariant.bytes, c.loop-k.invariant.place) at c.put_order-l.ensures.length in
@@ -109,8 +135,11 @@ loop-k-preserved c =
 -- ---- both
 pub returns : goal.returns
 returns c =
-    let n = P.counted_1 c.args.h c.args.len.now c.args.packet.now c.args.store.now c.args.orders.now c.args.«data».now c.begin_orders-m.ensures c.turns_of-n.ensures in
+    let n = P.counted_1 c.args.h c.args.len.now c.args.packet.now c.args.store.now c.args.orders.now c.args.«data».now c.begin_orders-m.ensures
+    c.turns_of-n.ensures in
     let same : c.loop-i.i ≡ c.turns_of-n.result = omega (arith, c.loop-i-test.false, c.loop-i.invariant.within) in
-    let all = P.counted_2 c.args.h c.args.len.now c.args.packet.now c.args.store.now c.args.orders.now c.args.«data».now n same c.loop-i.invariant.report c.turns_of-all.ensures in
-    P.ended c.args.h c.args.len.now c.args.packet.now c.args.store.now c.args.orders.now c.args.«data».now (same ∙ n) (omega (arith, all, c.loop-k-test.false, c.loop-k.invariant.within)) c.loop-i.invariant.report c.loop-k.invariant.list
+    let all = P.counted_2 c.args.h c.args.len.now c.args.packet.now c.args.store.now c.args.orders.now c.args.«data».now n same
+    c.loop-i.invariant.report c.turns_of-all.ensures in
+    P.ended c.args.h c.args.len.now c.args.packet.now c.args.store.now c.args.orders.now c.args.«data».now (same ∙ n)
+    (omega (arith, all, c.loop-k-test.false, c.loop-k.invariant.within)) c.loop-i.invariant.report c.loop-k.invariant.list
     c.loop-k.invariant.bytes

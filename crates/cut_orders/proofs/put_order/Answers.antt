@@ -1,5 +1,4 @@
 -- `cut_orders::put_order` meets its contract: it is the single output into a part of the destination.
--- the order is not refused
 use Prim.Native.Nat.{◌-◌, ◌≤◌, ◌<◌}
 use mathlib.Core.Path.{◌≡◌}
 use native.Mathlib.Omega.{arith}
@@ -27,7 +26,8 @@ holds c = holding (bare c.args.h c.args.len.now) (search rules) (long c) c.requi
 takes : (c : After-put_range-arg-1)
     → Taken (upper_six c.args.h.toc) (held (bare c.args.h c.args.len.now) c.args.store.now) (length c.args.«data».now - c.args.at) c.args.begin c.args.end
 takes c =
-    taken (upper_six c.args.h.toc) (held (bare c.args.h c.args.len.now) c.args.store.now) (length c.args.«data».now - c.args.at) c.args.begin c.args.end c.requires.taken
+    taken (upper_six c.args.h.toc) (held (bare c.args.h c.args.len.now) c.args.store.now) (length c.args.«data».now - c.args.at) c.args.begin
+    c.args.end c.requires.taken
 
 few : (c : After-put_range-arg-1) → length (held (bare c.args.h c.args.len.now) c.args.store.now) ≤ c.args.h.nb_frames
 few c = omega (arith, length-held (bare c.args.h c.args.len.now) c.args.store.now (holds c))
@@ -46,20 +46,24 @@ overflow_cast-end c =
 pub put_range-n-requires : goal.put_range-n-requires
 put_range-n-requires c =
     let frames = held (bare c.args.h c.args.len.now) c.args.store.now in
-    let r = passed_range (upper_six c.args.h.toc) frames c.ranges.begin c.ranges.end c.args.«data».now c.args.at (takes (goal.at.put_range-n-requires c).After-put_range-arg-1) in record {
+    let r = passed_range (upper_six c.args.h.toc) frames c.ranges.begin c.ranges.end c.args.«data».now c.args.at
+    (takes (goal.at.put_range-n-requires c).After-put_range-arg-1) in record {
       collector = (long (goal.at.put_range-n-requires c).After-put_range-arg-1, c.requires.collector);
       range = (r.0, omega (arith, r.1, few (goal.at.put_range-n-requires c).After-put_range-arg-1));
       store = c.requires.buffers.0;
-      room = passed_room (upper_six c.args.h.toc) frames c.ranges.begin c.ranges.end c.args.«data».now c.args.at (takes (goal.at.put_range-n-requires c).After-put_range-arg-1);
+      room = passed_room (upper_six c.args.h.toc) frames c.ranges.begin c.ranges.end c.args.«data».now c.args.at
+          (takes (goal.at.put_range-n-requires c).After-put_range-arg-1);
     }
 
 pub overflow_cast-result : goal.overflow_cast-result
 overflow_cast-result c =
     let frames = held (bare c.args.h c.args.len.now) c.args.store.now in
-    let room = passed_room (upper_six c.args.h.toc) frames c.ranges.begin c.ranges.end c.args.«data».now c.args.at (takes (goal.at.overflow_cast-result c).After-put_range-arg-1) in
+    let room = passed_room (upper_six c.args.h.toc) frames c.ranges.begin c.ranges.end c.args.«data».now c.args.at
+    (takes (goal.at.overflow_cast-result c).After-put_range-arg-1) in
     put_fits c.args.«data».now c.args.at c.put_range-n.ensures.length room c.requires.buffers.1
 
 pub returns : goal.returns
 returns c =
-    let whole = put_part_lem (upper_six c.args.h.toc) (held (bare c.args.h c.args.len.now) c.args.store.now) c.ranges.begin c.ranges.end c.args.«data».now c.args.at (takes (goal.at.returns c).After-put_range-arg-1)
+    let whole = put_part_lem (upper_six c.args.h.toc) (held (bare c.args.h c.args.len.now) c.args.store.now) c.ranges.begin c.ranges.end
+    c.args.«data».now c.args.at (takes (goal.at.returns c).After-put_range-arg-1)
     c.put_range-n.ensures.length c.put_range-n.ensures.bytes in record { length = whole.0; bytes = whole.1 }

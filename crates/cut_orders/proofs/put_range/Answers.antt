@@ -1,5 +1,4 @@
 -- `cut_orders::put_range` meets its contract: the range of the lengths held, and where its frames stand in the store.
--- where it begins
 use Prim.Native.Nat.{◌<◌}
 use mathlib.Core.Path.{◌≡◌, sym}
 use native.Mathlib.Omega.{arith}
@@ -15,7 +14,6 @@ use Rattle.cut_orders.proofs.Puts.{range_room, range_put}
 use Rattle.cut_orders.proofs.put_range.Goals as goal
 use Rattle.cut_orders.proofs.put_range.Goals.{After-wide, Start}
 
--- `cut_orders::put_range` meets its contract: the range of the lengths held, and where its frames stand in the store.
 byte : (c : Start) → c.args.h.toc < 256
 byte c = search rules
 
@@ -42,7 +40,8 @@ put_compact-requires c =
 
 pub returns : goal.returns
 returns c =
-    let whole = range_put (part (goal.at.returns c).Start) c.args.store.now (from (goal.at.returns c).After-wide) (upper_six c.args.h.toc) c.args.«data».now c.put_compact.ensures.next c.put_compact.ensures.bytes in record { length = whole.0; bytes = whole.1 }
+    let whole = range_put (part (goal.at.returns c).Start) c.args.store.now (from (goal.at.returns c).After-wide) (upper_six c.args.h.toc)
+    c.args.«data».now c.put_compact.ensures.next c.put_compact.ensures.bytes in record { length = whole.0; bytes = whole.1 }
 
 pub slice_bounds-total_16-end : goal.slice_bounds-total_16-end
 slice_bounds-total_16-end c =

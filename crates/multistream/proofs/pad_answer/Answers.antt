@@ -22,7 +22,7 @@ told c e =
 pub returns-then-streams-eq0 : goal.returns-then-streams-eq0
 returns-then-streams-eq0 c =
     let whole = meets (pad_no_streams c.args.«data».now c.args.len c.args.new_len c.args.nb_streams _
-      (streams (goal.at.returns-then-streams-eq0 c).After-streams_of-streams) c.if-streams-eq0.true) refl refl in record { report = whole.0; bytes = whole.1 }
+    (streams (goal.at.returns-then-streams-eq0 c).After-streams_of-streams) c.if-streams-eq0.true) refl refl in record { report = whole.0; bytes = whole.1 }
 
 pub pad_streams-requires : goal.pad_streams-requires
 pad_streams-requires c =
@@ -32,17 +32,17 @@ pad_streams-requires c =
 pub returns-in-Bad : goal.returns-in-Bad
 returns-in-Bad c =
     let is = pad_bad c.args.«data».now c.args.len c.args.new_len c.args.nb_streams _ (streams (goal.at.returns-in-Bad c).After-streams_of-streams)
-      c.if-streams-eq0.false (told (goal.at.returns-in-Bad c).After-lengths_of-l c.in-Bad.is) in let whole = meets is refl refl in
+    c.if-streams-eq0.false (told (goal.at.returns-in-Bad c).After-lengths_of-l c.in-Bad.is) in let whole = meets is refl refl in
     record { report = whole.0; bytes = whole.1 }
 
 pub returns-in-Same : goal.returns-in-Same
 returns-in-Same c =
     let is = pad_same c.args.«data».now c.args.len c.args.new_len c.args.nb_streams _ (streams (goal.at.returns-in-Same c).After-streams_of-streams)
-      c.if-streams-eq0.false (told (goal.at.returns-in-Same c).After-lengths_of-l c.in-Same.is) in let whole = meets is refl refl in
+    c.if-streams-eq0.false (told (goal.at.returns-in-Same c).After-lengths_of-l c.in-Same.is) in let whole = meets is refl refl in
     record { report = whole.0; bytes = whole.1 }
 
 pub returns-in-More : goal.returns-in-More
 returns-in-More c =
     let is = pad_more c.args.«data».now c.args.len c.args.new_len c.args.nb_streams _ (streams (goal.at.returns-in-More c).After-streams_of-streams)
-      c.if-streams-eq0.false _ _ (told (goal.at.returns-in-More c).After-lengths_of-l c.in-More.is) in
+    c.if-streams-eq0.false _ _ (told (goal.at.returns-in-More c).After-lengths_of-l c.in-More.is) in
     let whole = meets is c.pad_streams.ensures.report c.pad_streams.ensures.bytes in record { report = whole.0; bytes = whole.1 }

@@ -1,5 +1,4 @@
 -- `multistream::pad_streams` meets its contract: by what reading the first streams answers.
--- the first streams are within the packet
 use Prim.Native.Nat.{◌-◌}
 use native.Mathlib.Omega.{arith}
 use mathlib.Core.Path.{refl, sym, ap, ◌∙◌}
@@ -36,5 +35,5 @@ returns-in-Past c =
 pub returns-in-Stuck : goal.returns-in-Stuck
 returns-in-Stuck c =
     let packet = take c.args.len c.args.«data».now in let whole = meets
-      (ap (leaves c.args.«data».now) (pad_stuck packet c.args.streams c.args.new_len _ (sym c.pass_streams-p.ensures ∙ c.in-Stuck.is))) refl refl in
+    (ap (leaves c.args.«data».now) (pad_stuck packet c.args.streams c.args.new_len _ (sym c.pass_streams-p.ensures ∙ c.in-Stuck.is))) refl refl in
     record { report = whole.0; bytes = whole.1 }

@@ -1,5 +1,4 @@
 -- `multistream::pass_all` meets its contract: the first streams are read, and then the last.
--- a place within the packet
 use native.Mathlib.Omega.{arith}
 use mathlib.Core.Path.{sym, ap, ◌∙◌}
 use mathlib.Core.Bool.{false}

@@ -1,12 +1,8 @@
 -- `multistream::pass_streams` meets its contract. The invariant: the bytes so far with the streams from here on are all of them.
--- a place within the packet
 use Prim.Native.Nat.{◌+◌}
-use mathlib.Core.Path.{◌∙◌}
-use mathlib.Core.Bool.{true}
 use native.Mathlib.Omega.{arith}
-use Rattle.laws.specs.Bytes.{Bytes}
 use Rattle.multistream.proofs.Bounds.{part-short}
-use Rattle.multistream.proofs.Passing.{Passing, reach_lent, passing_start, passing_end, passing_stuck, passing_more_lem}
+use Rattle.multistream.proofs.Passing.{Passing, passing_start, passing_end, passing_stuck, passing_more_lem}
 use Rattle.multistream.proofs.pass_streams.Goals as goal
 use Rattle.multistream.proofs.pass_streams.Goals.{In-Past}
 
@@ -24,16 +20,11 @@ pub pass_stream-p-requires : goal.pass_stream-p-requires
 pass_stream-p-requires c =
     part-short c.args.«data».now c.loop-i.at 65535 c.requires
 
-pub further_on-requires : goal.further_on-requires
-further_on-requires c =
-    let bytes : Bytes c.args.«data».now = record { byte = λ j. (c.shared_slice_known-1.given j).fits } in
-    omega (arith, reach_lent true c.args.«data».now c.loop-i.at bytes c.loop-i.invariant.inside c.pass_stream-p.ensures, c.requires)
-
 pub returns-in_default : goal.returns-in_default
 returns-in_default c =
-    c.further_on.ensures
-    ∙ passing_stuck c.args.«data».now c.args.k c.loop-i.at c.loop-i.i c.loop-i.invariant c.pass_stream-p.result c.pass_stream-p.ensures c.loop-i-test.true _
-    c.in_default.is
+    let stuck = passing_stuck c.args.«data».now c.args.k c.loop-i.at c.loop-i.i c.loop-i.invariant c.pass_stream-p.result c.pass_stream-p.ensures
+    c.loop-i-test.true _ c.in_default.is in
+    cc stuck
 
 pub returns : goal.returns
 returns c =

@@ -1,6 +1,4 @@
 -- `multistream::repack_stream` meets its contract: the stream is read, and its frames are rewritten further to the front.
--- where the buffer's bytes are known, and the entry
--- what the rewrite leaves, which ends before the unread streams
 use Prim.Native.Nat.{◌-◌, ◌≤◌, ◌+◌}
 use native.Mathlib.Omega.{arith}
 use mathlib.Core.Path.{◌≡◌, sym}
@@ -24,7 +22,7 @@ answer : (c : After-read_into-p)
     → reads c ≡ parsed c.args.self_delimited (stream c.args.«data».now c.args.from c.args.len)
 answer c =
     lent_read c.args.self_delimited c.args.«data».now c.args.to c.args.from c.args.len c.requires.places c.requires.reads c.read_into-p.result
-      c.read_into-p.new.lengths
+    c.read_into-p.new.lengths
     c.read_into-p.ensures
 
 -- how the stream's frames lie
@@ -32,7 +30,7 @@ lies : (c : After-read_into-p)
     → Lies c.args.self_delimited (drop c.args.from c.args.«data».now) (c.args.len - c.args.from) (reads c)
 lies c =
     lying c.args.self_delimited c.args.«data».now c.args.to c.args.from c.args.len c.requires.places c.requires.reads
-      (record { byte = λ i. (c.slice_known-1.given i).fits })
+    (record { byte = λ i. (c.slice_known-1.given i).fits })
     (reads c) (answer c)
 
 taken : (c : After-read_into-p) → c.args.from + c.read_into-p.result.taken ≤ c.args.len
@@ -44,7 +42,7 @@ put : (c : After-compact_frames-bytes) → c.args.to + c.compact_frames-bytes.re
 put c =
     let bytes : Bytes c.args.«data».now = record { byte = λ i. (c.slice_known-1.given i).fits } in
     (rewritten c.args.self_delimited c.args.«data».now c.args.to c.args.from c.args.len c.requires.places c.requires.reads bytes
-      (packet_with c.read_into-p.result c.read_into-p.new.lengths)
+    (packet_with c.read_into-p.result c.read_into-p.new.lengths)
     (lent_read c.args.self_delimited c.args.«data».now c.args.to c.args.from c.args.len c.requires.places c.requires.reads c.read_into-p.result
     c.read_into-p.new.lengths c.read_into-p.ensures) c.compact_frames-bytes.ensures.bytes
     c.compact_frames-bytes.ensures.next).2
@@ -53,7 +51,7 @@ pub compact_frames-bytes-requires : goal.compact_frames-bytes-requires
 compact_frames-bytes-requires c =
     let bytes : Bytes c.args.«data».now = record { byte = λ i. (c.slice_known-1.given i).fits } in
     let w = rewrite_fits c.args.self_delimited c.args.«data».now c.args.to c.args.from c.args.len c.requires.places c.requires.reads bytes
-      (reads (goal.at.compact_frames-bytes-requires c).After-read_into-p) (answer (goal.at.compact_frames-bytes-requires c).After-read_into-p) in record {
+    (reads (goal.at.compact_frames-bytes-requires c).After-read_into-p) (answer (goal.at.compact_frames-bytes-requires c).After-read_into-p) in record {
       some = (lies (goal.at.compact_frames-bytes-requires c).After-read_into-p).some;
       block = w.0;
       short = w.1;
@@ -64,7 +62,7 @@ returns c =
     let bytes : Bytes c.args.«data».now = record { byte = λ i. (c.slice_known-1.given i).fits } in
     let d =
     rewritten c.args.self_delimited c.args.«data».now c.args.to c.args.from c.args.len c.requires.places c.requires.reads bytes
-      (reads (goal.at.returns c).After-read_into-p) (answer (goal.at.returns c).After-read_into-p) c.compact_frames-bytes.ensures.bytes
+    (reads (goal.at.returns c).After-read_into-p) (answer (goal.at.returns c).After-read_into-p) c.compact_frames-bytes.ensures.bytes
     c.compact_frames-bytes.ensures.next in record {
       bytes = d.0;
       next = d.1;

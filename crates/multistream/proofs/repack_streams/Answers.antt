@@ -13,36 +13,36 @@ pub repack_stream-places-requires : goal.repack_stream-places-requires
 repack_stream-places-requires c =
     record {
       places = in_places c.args.«data».now c.args.len c.args.k c.requires.0 c.requires.1 c.requires.2 c.loop-i.«data» c.loop-i.to c.loop-i.from
-        c.loop-i.i c.loop-i.invariant;
+          c.loop-i.i c.loop-i.invariant;
       reads = repacking_reads c.args.«data».now c.args.len c.args.k c.requires.0 c.requires.1 c.requires.2 c.loop-i.«data» c.loop-i.to c.loop-i.from
-        c.loop-i.i c.loop-i.invariant c.loop-i-test.true;
+          c.loop-i.i c.loop-i.invariant c.loop-i-test.true;
     }
 
 pub loop-i-preserved : goal.loop-i-preserved
 loop-i-preserved c =
     repacking_more c.args.«data».now c.args.len c.args.k c.requires.0 c.requires.1 c.requires.2 c.loop-i.«data» c.loop-i.to c.loop-i.from c.loop-i.i
-      c.loop-i.invariant c.loop-i-test.true
+    c.loop-i.invariant c.loop-i-test.true
     (record { byte = λ j. (c.slice_known-1.given j).fits }) _ c.repack_stream-places.ensures.bytes c.repack_stream-places.result
-      c.repack_stream-places.ensures.next
+    c.repack_stream-places.ensures.next
 
 pub repack_stream-last-requires : goal.repack_stream-last-requires
 repack_stream-last-requires c =
     record {
       places = in_places c.args.«data».now c.args.len c.args.k c.requires.0 c.requires.1 c.requires.2 c.loop-i.«data» c.loop-i.to c.loop-i.from
-        c.loop-i.i c.loop-i.invariant;
+          c.loop-i.i c.loop-i.invariant;
       reads = repacking_last c.args.«data».now c.args.len c.args.k c.requires.0 c.requires.1 c.requires.2 c.loop-i.«data» c.loop-i.to c.loop-i.from
-        c.loop-i.i c.loop-i.invariant c.loop-i-test.false;
+          c.loop-i.i c.loop-i.invariant c.loop-i-test.false;
     }
 
 pub shape_of-data : goal.shape_of-data
 shape_of-data c =
     c.repack_stream-last.auto.data
     ∙ same_size c.args.«data».now c.args.len c.args.k c.requires.0 c.requires.1 c.requires.2 c.loop-i.«data» c.loop-i.to c.loop-i.from c.loop-i.i
-      c.loop-i.invariant
+    c.loop-i.invariant
 
 pub returns : goal.returns
 returns c =
     let whole = repacking_end c.args.«data».now c.args.len c.args.k c.requires.0 c.requires.1 c.requires.2 c.loop-i.«data» c.loop-i.to c.loop-i.from
-      c.loop-i.i c.loop-i.invariant c.loop-i-test.false
+    c.loop-i.i c.loop-i.invariant c.loop-i-test.false
     (record { byte = λ j. (c.slice_known-1.given j).fits }) _ c.repack_stream-last.ensures.bytes c.repack_stream-last.result
-      c.repack_stream-last.ensures.next in record { bytes = whole.0; next = whole.1 }
+    c.repack_stream-last.ensures.next in record { bytes = whole.0; next = whole.1 }

@@ -20,22 +20,25 @@ told c =
 pub returns-then-streams-eq0 : goal.returns-then-streams-eq0
 returns-then-streams-eq0 c =
     let whole = meets (unpad_no_streams c.args.«data».now c.args.len c.args.nb_streams _
-      (streams (goal.at.returns-then-streams-eq0 c).After-streams_of-streams) c.if-streams-eq0.true) refl refl in record { report = whole.0; bytes = whole.1 }
+    (streams (goal.at.returns-then-streams-eq0 c).After-streams_of-streams) c.if-streams-eq0.true) refl refl in record { report = whole.0; bytes = whole.1 }
 
 pub returns-then-n-eq0 : goal.returns-then-n-eq0
 returns-then-n-eq0 c =
     let whole = meets (unpad_none c.args.«data».now c.args.len c.args.nb_streams _ (streams (goal.at.returns-then-n-eq0 c).After-streams_of-streams)
-      c.if-streams-eq0.false _ (told (goal.at.returns-then-n-eq0 c).After-length_of-n) c.if-n-eq0.true) refl refl in
+    c.if-streams-eq0.false _ (told (goal.at.returns-then-n-eq0 c).After-length_of-n) c.if-n-eq0.true) refl refl in
     record { report = whole.0; bytes = whole.1 }
 
 pub unpad_streams-requires : goal.unpad_streams-requires
 unpad_streams-requires c =
-    let w = length-within c.args.«data».now c.args.len in
-    (omega (arith, w, told (goal.at.unpad_streams-requires c).After-length_of-n), omega
-      (arith, w, told (goal.at.unpad_streams-requires c).After-length_of-n), omega (arith, c.if-streams-eq0.false))
+    let w = length-within c.args.«data».now c.args.len in (
+      omega (arith, w, told (goal.at.unpad_streams-requires c).After-length_of-n),
+      omega
+          (arith, w, told (goal.at.unpad_streams-requires c).After-length_of-n),
+      omega (arith, c.if-streams-eq0.false),
+    )
 
 pub returns : goal.returns
 returns c =
     let is = unpad_some c.args.«data».now c.args.len c.args.nb_streams _ (streams (goal.at.returns c).After-streams_of-streams)
-      c.if-streams-eq0.false _ (told (goal.at.returns c).After-length_of-n) c.if-n-eq0.false in
+    c.if-streams-eq0.false _ (told (goal.at.returns c).After-length_of-n) c.if-n-eq0.false in
     let whole = meets is c.unpad_streams.ensures.report c.unpad_streams.ensures.bytes in record { report = whole.0; bytes = whole.1 }

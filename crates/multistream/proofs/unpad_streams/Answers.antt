@@ -1,5 +1,4 @@
 -- `multistream::unpad_streams` meets its contract: all streams are read, and then rewritten.
--- what was written is no longer than the packet was
 use Prim.Native.Nat.{◌-◌}
 use native.Mathlib.Omega.{arith}
 use mathlib.Core.Path.{refl, sym, ap, ◌∙◌}
@@ -37,7 +36,7 @@ pub returns-in-Past : goal.returns-in-Past
 returns-in-Past c =
     let is = unpad_all c.args.streams (take c.args.len c.args.«data».now) (sym c.pass_all-p.ensures ∙ ap verdict_by c.in-Past.is) in
     let whole = meets (ap (leaves c.args.«data».now) is) (ap (λ n. plain (pos n)) c.repack_streams-n.ensures.next) c.repack_streams-n.ensures.bytes
-      in record { report = whole.0; bytes = whole.1 }
+    in record { report = whole.0; bytes = whole.1 }
 
 pub returns-in-Stuck : goal.returns-in-Stuck
 returns-in-Stuck c =

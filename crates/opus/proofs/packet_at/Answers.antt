@@ -1,6 +1,4 @@
 -- `opus::packet_at` meets its contract: by what was read of the frames.
--- the frames end where the contract's bound says
--- and break where it says
 use Prim.Native.Nat.{◌+◌}
 use mathlib.Core.Path.{◌≡◌, ap, ◌∙◌}
 use native.Mathlib.Omega.{arith}
@@ -11,7 +9,6 @@ use Rattle.opus.proofs.AtPacket.{head_found, head_broken, end_found, end_broken}
 use Rattle.opus.proofs.packet_at.Goals as goal
 use Rattle.opus.proofs.packet_at.Goals.{In-At, In-Broken}
 
--- `opus::packet_at` meets its contract: by what was read of the frames.
 -- the frames end where the contract's bound says
 ends : (c : In-At) → end_of c.args.f ≡ c.in-At.offset + c.in-At.total
 ends c = end_found c.args.f _ _ c.in-At.is

@@ -1,13 +1,9 @@
 -- `opus::read_body` meets its contract: the padding is read behind the count byte, and the frames up to it.
--- the padding lengths and the padding lie within the packet
 use Prim.Native.Nat.{◌+◌, ◌≤◌}
-use mathlib.Core.Path.{sym, ap, ◌∙◌}
+use mathlib.Core.Path.{sym, ◌∙◌}
 use native.Mathlib.Omega.{arith}
 use borrow.Author.Rules.{rules}
 use lib.ListN.{length}
-use Rattle.opus_defines.specs.Rules.{rule_refusal}
-use Rattle.opus_defines.specs.declared.Rule.{Rule}
-use Rattle.opus.specs.Answers.{no_packet}
 use Rattle.opus.proofs.AtPacket.{body_unfit, body_room, body_bytes, body_fits, body_equal, body_unequal}
 use Rattle.opus.proofs.Lent.{none-answered}
 use Rattle.opus.proofs.read_body.Goals as goal

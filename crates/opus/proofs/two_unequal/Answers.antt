@@ -1,5 +1,4 @@
 -- `opus::two_unequal` meets its contract: the second frame takes what the first leaves.
--- the first frame's length field
 use mathlib.Core.Path.{sym, ◌∙◌}
 use Rattle.opus_size.proofs.At.{Found, whole_was, short_was}
 use Rattle.opus.proofs.AtShort.{unequal-cut, unequal-over, unequal_long, unequal-fits}
@@ -24,8 +23,10 @@ returns-then-left-one c =
 
 pub returns-then-last-gt-MOST_BYTES : goal.returns-then-last-gt-MOST_BYTES
 returns-then-last-gt-MOST_BYTES c =
-    unequal_long c.args.«data».now c.requires.0 c.requires.1 _ _ _ (found (goal.at.returns-then-last-gt-MOST_BYTES c).In-Whole) c.wide-one.ensures.0 c.if-left-one.false c.if-last-gt-MOST_BYTES.true
+    unequal_long c.args.«data».now c.requires.0 c.requires.1 _ _ _ (found (goal.at.returns-then-last-gt-MOST_BYTES c).In-Whole) c.wide-one.ensures.0
+    c.if-left-one.false c.if-last-gt-MOST_BYTES.true
 
 pub returns : goal.returns
 returns c =
-    unequal-fits c.args.«data».now c.requires.0 c.requires.1 _ _ _ (found (goal.at.returns c).In-Whole) c.wide-one.ensures.0 c.if-left-one.false c.if-last-gt-MOST_BYTES.false
+    unequal-fits c.args.«data».now c.requires.0 c.requires.1 _ _ _ (found (goal.at.returns c).In-Whole) c.wide-one.ensures.0 c.if-left-one.false
+    c.if-last-gt-MOST_BYTES.false

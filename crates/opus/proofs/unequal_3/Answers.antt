@@ -1,5 +1,4 @@
 -- `opus::unequal_3` meets its contract: the length fields, then the last frame.
--- the place where the fields break is within the slice
 use Prim.Native.Nat.{◌-◌, ◌≤◌}
 use mathlib.Core.Path.{sym, ◌∙◌}
 use native.Mathlib.Omega.{arith}
@@ -35,7 +34,8 @@ packet_at-requires c =
     omega (
       arith,
       c.requires.le_count,
-      uneven_fits c.args.s.now c.args.self_delimited c.args.toc c.args.count c.args.at c.args.pad c.requires.le_count.0 c.last_frame.result _ (c.last_frame.ensures R7),
+      uneven_fits c.args.s.now c.args.self_delimited c.args.toc c.args.count c.args.at c.args.pad c.requires.le_count.0 c.last_frame.result _
+          (c.last_frame.ensures R7),
     )
 
 pub returns-in-Cut : goal.returns-in-Cut
@@ -46,5 +46,6 @@ returns-in-Cut c =
 
 pub returns-in-All : goal.returns-in-All
 returns-in-All c =
-    uneven_read c.args.s.now c.args.self_delimited c.args.toc c.args.count c.args.at c.args.pad c.requires.le_count.0 c.last_frame.result _ (c.last_frame.ensures R7)
+    uneven_read c.args.s.now c.args.self_delimited c.args.toc c.args.count c.args.at c.args.pad c.requires.le_count.0 c.last_frame.result _
+    (c.last_frame.ensures R7)
     c.packet_at.result c.packet_at.ensures

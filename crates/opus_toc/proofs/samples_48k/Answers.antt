@@ -1,7 +1,5 @@
 -- `opus_toc::samples_48k` meets its contract: each arm names the configurations that have its samples, and one test at all 32 says that
 -- the last arm has the rest.
--- the configuration is the upper five bits
--- the configurations of each arm, by the duration in ms
 use Prim.Native.Nat.{ℕ, ◌/◌, ◌<◌}
 use native.Mathlib.Omega.{arith}
 use mathlib.Core.Path.{◌≡◌, refl}
@@ -16,8 +14,6 @@ use Rattle.opus_toc.specs.Toc.{configuration, duration, samples}
 use Rattle.opus_toc.proofs.Keys.{AllOf, key_holds, no_key}
 use Rattle.opus_toc.proofs.samples_48k.Goals as goal
 
--- `opus_toc::samples_48k` meets its contract: each arm names the configurations that have its samples, and one test at all 32 says that
--- the last arm has the rest.
 -- Assumes nothing.
 abbrev Has : ℕ → ℕ → Type 0
 Has n c = n ≡ samples 48000 c
@@ -81,4 +77,5 @@ returns-in-3 c =
 
 pub returns-in_default : goal.returns-in_default
 returns-in_default c =
-    at-toc 960 c.args.toc (others (c.args.toc / 8) c.in_default.in_default-own.rest.0.0.0.0.1 c.in_default.in_default-own.rest.0.0.0.1 c.in_default.in_default-own.rest.0.0.1 c.in_default.in_default-own.rest.0.1 c.in_default.in_default-own.rest.1 (omega (arith, c.ranges.toc)))
+    at-toc 960 c.args.toc (others (c.args.toc / 8) c.in_default.in_default-own.rest.0.0.0.0.1 c.in_default.in_default-own.rest.0.0.0.1
+    c.in_default.in_default-own.rest.0.0.1 c.in_default.in_default-own.rest.0.1 c.in_default.in_default-own.rest.1 (omega (arith, c.ranges.toc)))

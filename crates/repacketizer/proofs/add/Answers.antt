@@ -1,7 +1,4 @@
 -- `repacketizer::add` meets its contract: by the tests of the code.
--- the collector of which the code has the head, the lengths and the numbers
--- what was found of it
--- the collector is sound
 use mathlib.Core.Path.{◌≡◌, sym, ◌∙◌}
 use mathlib.Core.Bool.{true}
 use lib.ListN.{length}
@@ -32,11 +29,15 @@ is c =
 
 pub returns-then-not-c : goal.returns-then-not-c
 returns-then-not-c c =
-    let unsound = sym (found (goal.at.returns-then-not-c c).After-check_words-c) ∙ not-true _ c.if-not-c.true in let whole = refused_as (by_unsound c.args.strict c.args.self_delimited (taken (goal.at.returns-then-not-c c).After-check_words-c) c.args.«data».now c.args.store.now unsound) c.refused_add.ensures in record { answer = whole.0; bytes = whole.1.0; few = whole.1.1 }
+    let unsound = sym (found (goal.at.returns-then-not-c c).After-check_words-c) ∙ not-true _ c.if-not-c.true in
+    let whole = refused_as (by_unsound c.args.strict c.args.self_delimited (taken (goal.at.returns-then-not-c c).After-check_words-c)
+    c.args.«data».now c.args.store.now unsound) c.refused_add.ensures in record { answer = whole.0; bytes = whole.1.0; few = whole.1.1 }
 
 pub returns-then-store-lt-LEAST_STORE : goal.returns-then-store-lt-LEAST_STORE
 returns-then-store-lt-LEAST_STORE c =
-    let whole = refused_as (by_tight c.args.strict c.args.self_delimited (taken (goal.at.returns-then-store-lt-LEAST_STORE c).After-check_words-c) c.args.«data».now c.args.store.now (is (goal.at.returns-then-store-lt-LEAST_STORE c).Else-not-c) c.if-store-lt-LEAST_STORE.true) c.refused_add-then-store-lt-LEAST_STORE.ensures in record { answer = whole.0; bytes = whole.1.0; few = whole.1.1 }
+    let whole = refused_as (by_tight c.args.strict c.args.self_delimited (taken (goal.at.returns-then-store-lt-LEAST_STORE c).After-check_words-c)
+    c.args.«data».now c.args.store.now (is (goal.at.returns-then-store-lt-LEAST_STORE c).Else-not-c) c.if-store-lt-LEAST_STORE.true)
+    c.refused_add-then-store-lt-LEAST_STORE.ensures in record { answer = whole.0; bytes = whole.1.0; few = whole.1.1 }
 
 pub add_packet-requires : goal.add_packet-requires
 add_packet-requires c =
@@ -46,7 +47,8 @@ add_packet-requires c =
       lengths48 = l;
       numbers48 = p;
       soundly = is (goal.at.add_packet-requires c).Else-not-c;
-      place = checked-total (taken (goal.at.add_packet-requires c).After-check_words-c) c.check_words-c.result c.check_words-c.ensures (is (goal.at.add_packet-requires c).Else-not-c);
+      place = checked-total (taken (goal.at.add_packet-requires c).After-check_words-c) c.check_words-c.result c.check_words-c.ensures
+          (is (goal.at.add_packet-requires c).Else-not-c);
       roomy = c.if-store-lt-LEAST_STORE.false;
     }
 

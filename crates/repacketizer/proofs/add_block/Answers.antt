@@ -1,8 +1,4 @@
 -- `repacketizer::add_block` meets its contract: frames that go with those held are copied behind them.
--- the frames go with those held
--- the bytes of the new frames, as the code counts them
--- where the frames were found to go with those held
--- where the place was found
 use Prim.Native.Nat.{◌+◌}
 use mathlib.Core.Path.{◌≡◌, ◌∙◌, ap}
 use mathlib.Core.Bool.{not}
@@ -20,7 +16,8 @@ use Rattle.repacketizer.proofs.add_block.Goals.{After-wide, Else-not-goes_with}
 fits : (c : Else-not-goes_with)
     → Joins c.args.h c.args.len.now c.args.packet.now c.args.at c.args.toc c.args.ns.now c.args.store.now
 fits c =
-    joins (search rules) c.requires.collector c.args.toc c.args.ns.now c.goes_with.ensures (ap not c.if-not-goes_with.false) c.requires.frames.1 c.requires.frames.2
+    joins (search rules) c.requires.collector c.args.toc c.args.ns.now c.goes_with.ensures (ap not c.if-not-goes_with.false) c.requires.frames.1
+    c.requires.frames.2
 
 -- the bytes of the new frames, as the code counts them
 sum : (c : After-wide)
@@ -37,8 +34,15 @@ copy_into-requires c =
     (omega (arith, sum c, (fits (goal.at.copy_into-requires c).Else-not-goes_with).room), omega (arith, sum c, c.requires.frames.3))
 
 pub put_lengths-requires : goal.put_lengths-requires
-put_lengths-requires c =
-    (c.requires.frames.0, omega (arith, c.wide-place.ensures.0, (fits (goal.at.put_lengths-requires c).Else-not-goes_with).few, (fits (goal.at.put_lengths-requires c).Else-not-goes_with).ready.lengths48))
+put_lengths-requires c = (
+  c.requires.frames.0,
+  omega (
+    arith,
+    c.wide-place.ensures.0,
+    (fits (goal.at.put_lengths-requires c).Else-not-goes_with).few,
+    (fits (goal.at.put_lengths-requires c).Else-not-goes_with).ready.lengths48,
+  ),
+)
 
 pub overflow_add-place : goal.overflow_add-place
 overflow_add-place c =

@@ -1,6 +1,4 @@
 -- `repacketizer::add_one` meets its contract: a frame that goes with those held is copied behind them.
--- the frame goes with those held
--- where the frame was found to go with those held
 use Prim.Native.Nat.{◌+◌}
 use mathlib.Core.Path.{refl, ap}
 use mathlib.Core.Bool.{not}

@@ -36,7 +36,11 @@ add_one-requires c =
 pub returns-in-One : goal.returns-in-One
 returns-in-One c =
     let rp = collector_of c.args.h c.args.len.now c.args.packet.now in
-    rw (c.if-self_delimited.false, by_short c.args.strict rp c.args.«data».now c.args.store.now (record { byte = λ i. (c.type_inv.«data» i).fits }) (one (goal.at.returns-in-One c).In-One)) c.add_one.ensures
+    rw (
+      c.if-self_delimited.false,
+      by_short c.args.strict rp c.args.«data».now c.args.store.now (record { byte = λ i. (c.type_inv.«data» i).fits })
+          (one (goal.at.returns-in-One c).In-One),
+    ) c.add_one.ensures
 
 pub bounds-data-0-in-Two : goal.bounds-data-0-in-Two
 bounds-data-0-in-Two c =
@@ -53,7 +57,11 @@ add_two-requires c =
 pub returns-in-Two : goal.returns-in-Two
 returns-in-Two c =
     let rp = collector_of c.args.h c.args.len.now c.args.packet.now in
-    rw (c.if-self_delimited.false, by_short c.args.strict rp c.args.«data».now c.args.store.now (record { byte = λ i. (c.type_inv.«data» i).fits }) (two (goal.at.returns-in-Two c).In-Two)) c.add_two.ensures
+    rw (
+      c.if-self_delimited.false,
+      by_short c.args.strict rp c.args.«data».now c.args.store.now (record { byte = λ i. (c.type_inv.«data» i).fits })
+          (two (goal.at.returns-in-Two c).In-Two),
+    ) c.add_two.ensures
 
 pub returns-in_default : goal.returns-in_default
 returns-in_default c =

@@ -1,7 +1,4 @@
 -- `repacketizer::add_read` meets its contract: by the test on the length; the frames that were read are added as one block.
--- where the packet's bytes are known, and the entry
--- what was read of an accepted packet
--- the frames held are at most 48
 use Prim.Native.Nat.{◌≤◌}
 use mathlib.Core.Path.{sym}
 use native.Mathlib.Omega.{arith}
@@ -49,7 +46,8 @@ pub add_block-requires : goal.add_block-requires
 add_block-requires c =
     let q = packet_with c.read_into-p.result c.read_into-p.new.lengths in
     let bytes : Bytes c.args.«data».now = record { byte = λ i. (c.type_inv.«data» i).fits } in
-    let f = facts c.args.self_delimited c.args.«data».now q.toc (lengths_of q) q.first q.taken bytes (reading (goal.at.add_block-requires c).In_default).means in record {
+    let f = facts c.args.self_delimited c.args.«data».now q.toc (lengths_of q) q.first q.taken bytes
+    (reading (goal.at.add_block-requires c).In_default).means in record {
       collector = c.requires;
       frames = (f.some, f.few, f.small, omega (arith, f.block, f.within));
     }
@@ -59,13 +57,15 @@ returns-in_default c =
     let q = packet_with c.read_into-p.result c.read_into-p.new.lengths in
     let rp = collector_of c.args.h c.args.len.now c.args.packet.now in
     rw (add_read c.args.self_delimited rp c.args.«data».now c.args.store.now q.toc (lengths_of q) q.first q.taken
-    (record { byte = λ i. (c.type_inv.«data» i).fits }) (reading (goal.at.returns-in_default c).In_default).short (reading (goal.at.returns-in_default c).In_default).means)
+    (record { byte = λ i. (c.type_inv.«data» i).fits }) (reading (goal.at.returns-in_default c).In_default).short
+    (reading (goal.at.returns-in_default c).In_default).means)
     c.add_block.ensures
 
 pub returns : goal.returns
 returns c =
     let rp = collector_of c.args.h c.args.len.now c.args.packet.now in
     let refused =
-    lent_refused c.args.self_delimited c.args.«data».now c.read_into-p.result c.read_into-p.new.lengths c.read_into-p.ensures c.if-data-gt-MOST_PACKET.false c.in-Refused.is rp c.args.store.now in
+    lent_refused c.args.self_delimited c.args.«data».now c.read_into-p.result c.read_into-p.new.lengths c.read_into-p.ensures
+    c.if-data-gt-MOST_PACKET.false c.in-Refused.is rp c.args.store.now in
     refused_as (why_refused c.args.h c.args.len.now c.args.packet.now c.args.«data».now c.args.store.now _ c.why_not.ensures refused)
     c.refused_add-2.ensures

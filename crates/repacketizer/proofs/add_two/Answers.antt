@@ -1,7 +1,4 @@
 -- `repacketizer::add_two` meets its contract: frames that go with those held are copied behind them.
--- the frames go with those held
--- the bytes of the frames, as the code counts them
--- where the frames were found to go with those held
 use Prim.Native.Nat.{◌+◌}
 use mathlib.Core.Path.{◌≡◌, ap}
 use mathlib.Core.Bool.{not}
@@ -19,7 +16,8 @@ use Rattle.repacketizer.proofs.add_two.Goals.{After-wide-2, Else-not-goes_with}
 fits : (c : Else-not-goes_with)
     → Joins c.args.h c.args.len.now c.args.packet.now c.args.at c.args.toc (c.args.m ∷ c.args.n ∷ []) c.args.store.now
 fits c =
-    joins (search rules) c.requires.collector c.args.toc (c.args.m ∷ c.args.n ∷ []) c.goes_with.ensures (ap not c.if-not-goes_with.false) (omega arith) c.requires.frames.0
+    joins (search rules) c.requires.collector c.args.toc (c.args.m ∷ c.args.n ∷ []) c.goes_with.ensures (ap not c.if-not-goes_with.false)
+    (omega arith) c.requires.frames.0
 
 -- the bytes of the frames, as the code counts them
 sum : (c : After-wide-2)
@@ -63,7 +61,8 @@ shape_of-packet c =
 pub returns : goal.returns
 returns c =
     joins_block (fits (goal.at.returns c).Else-not-goes_with) c.args.«data».now c.args.first c.wide-place.ensures.0 c.copy_into.ensures
-    (two_put c.args.len.now c.wide-place.result c.args.m c.args.n) c.put_numbers.ensures c.more_frames.ensures (sum (goal.at.returns c).After-wide-2) (omega arith)
+    (two_put c.args.len.now c.wide-place.result c.args.m c.args.n) c.put_numbers.ensures c.more_frames.ensures (sum (goal.at.returns c).After-wide-2)
+    (omega arith)
 
 -- the bytes of the frames, as the code counts them
 pub returns-then-not-goes_with : goal.returns-then-not-goes_with

@@ -1,5 +1,4 @@
 -- `repacketizer::put_lengths` meets its contract. The invariant: the first i lengths stand in the array, from the place on.
--- the array as the loop finds it
 use Prim.Native.Nat.{◌+◌}
 use mathlib.Core.Path.{◌≡◌, refl, ap, ◌∙◌}
 use native.Mathlib.Omega.{arith}

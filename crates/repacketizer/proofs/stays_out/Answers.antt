@@ -11,7 +11,8 @@ returns-then-data-eq0 c =
 
 pub returns-then-goes_with : goal.returns-then-goes_with
 returns-then-goes_with c =
-    stays_goes (bare c.args.h []) c.args.«data».now c.if-data-eq0.false c.said_frames-n.result c.said_frames-n.ensures.0 (sym c.goes_with.ensures ∙ c.if-goes_with.true)
+    stays_goes (bare c.args.h []) c.args.«data».now c.if-data-eq0.false c.said_frames-n.result c.said_frames-n.ensures.0
+    (sym c.goes_with.ensures ∙ c.if-goes_with.true)
 
 pub returns-then-h-toc : goal.returns-then-h-toc
 returns-then-h-toc c =

@@ -12,7 +12,8 @@ pub returns : goal.returns
 returns c =
     let back : to_z w32 (of_z w32 c.opus_repacketizer_out_range_impl.result) ≡ c.opus_repacketizer_out_range_impl.result = search rules in
     let o =
-    meets_number (out_passed false false c.args.rp c.args.store.now c.args.begin c.args.end c.args.«data».now c.ranges.begin c.ranges.end) c.opus_repacketizer_out_range_impl.ensures.number
+    meets_number (out_passed false false c.args.rp c.args.store.now c.args.begin c.args.end c.args.«data».now c.ranges.begin c.ranges.end)
+    c.opus_repacketizer_out_range_impl.ensures.number
     c.opus_repacketizer_out_range_impl.ensures.bytes in record {
       number = back ∙ o.0;
       bytes = o.1;

@@ -1,7 +1,4 @@
 -- `repacketizer_out::out_answer` meets its contract: by the tests of the code.
--- the collector of which the code has the head, the lengths and the numbers
--- the collector is sound
--- the collector, the store and the destination are in order
 use mathlib.Core.Path.{◌≡◌, sym, ◌∙◌}
 use mathlib.Core.Bool.{true}
 use borrow.Author.Rules.{rules}
@@ -45,18 +42,24 @@ ready : (c : Else-data-gt-MOST_PACKET)
 ready c =
     let r = collector_of c.args.h c.args.len.now c.args.packet.now in
     let i = sym (checked-sound r c.check-c.result c.check-c.ensures) ∙ not-false _ c.if-not-c.false in
-    out_sound c.args.self_delimited c.args.pad r c.args.store.now c.args.begin c.args.end c.args.«data».now i c.if-store-lt-LEAST_STORE.false c.if-data-gt-MOST_PACKET.false
+    out_sound c.args.self_delimited c.args.pad r c.args.store.now c.args.begin c.args.end c.args.«data».now i c.if-store-lt-LEAST_STORE.false
+    c.if-data-gt-MOST_PACKET.false
 
 long : (c : After-check-c) → length (taken c).len ≡ 48
 long c = search rules
 
 pub returns-then-store-lt-LEAST_STORE : goal.returns-then-store-lt-LEAST_STORE
 returns-then-store-lt-LEAST_STORE c =
-    let r = taken (goal.at.returns-then-store-lt-LEAST_STORE c).After-check-c in let whole = refused_as BadArg (out_tight c.args.self_delimited c.args.pad r c.args.store.now c.args.begin c.args.end c.args.«data».now (is (goal.at.returns-then-store-lt-LEAST_STORE c).Else-not-c) c.if-store-lt-LEAST_STORE.true) in record { number = whole.0; bytes = whole.1 }
+    let r = taken (goal.at.returns-then-store-lt-LEAST_STORE c).After-check-c in
+    let whole = refused_as BadArg (out_tight c.args.self_delimited c.args.pad r c.args.store.now c.args.begin c.args.end c.args.«data».now
+    (is (goal.at.returns-then-store-lt-LEAST_STORE c).Else-not-c) c.if-store-lt-LEAST_STORE.true) in record { number = whole.0; bytes = whole.1 }
 
 pub returns-then-data-gt-MOST_PACKET : goal.returns-then-data-gt-MOST_PACKET
 returns-then-data-gt-MOST_PACKET c =
-    let r = taken (goal.at.returns-then-data-gt-MOST_PACKET c).After-check-c in let whole = refused_as BadArg (out_long c.args.self_delimited c.args.pad r c.args.store.now c.args.begin c.args.end c.args.«data».now (is (goal.at.returns-then-data-gt-MOST_PACKET c).Else-not-c) c.if-store-lt-LEAST_STORE.false c.if-data-gt-MOST_PACKET.true) in record { number = whole.0; bytes = whole.1 }
+    let r = taken (goal.at.returns-then-data-gt-MOST_PACKET c).After-check-c in
+    let whole = refused_as BadArg (out_long c.args.self_delimited c.args.pad r c.args.store.now c.args.begin c.args.end c.args.«data».now
+    (is (goal.at.returns-then-data-gt-MOST_PACKET c).Else-not-c) c.if-store-lt-LEAST_STORE.false c.if-data-gt-MOST_PACKET.true) in
+    record { number = whole.0; bytes = whole.1 }
 
 pub out_frames-requires : goal.out_frames-requires
 out_frames-requires c =
@@ -67,25 +70,31 @@ out_frames-requires c =
 
 pub returns-then-not-c : goal.returns-then-not-c
 returns-then-not-c c =
-    let unsound = sym (found (goal.at.returns-then-not-c c).After-check-c) ∙ not-true _ c.if-not-c.true in let whole = refused_as InvalidState (out_unsound c.args.self_delimited c.args.pad (taken (goal.at.returns-then-not-c c).After-check-c) c.args.store.now c.args.begin c.args.end c.args.«data».now unsound) in record { number = whole.0; bytes = whole.1 }
+    let unsound = sym (found (goal.at.returns-then-not-c c).After-check-c) ∙ not-true _ c.if-not-c.true in
+    let whole = refused_as InvalidState (out_unsound c.args.self_delimited c.args.pad (taken (goal.at.returns-then-not-c c).After-check-c)
+    c.args.store.now c.args.begin c.args.end c.args.«data».now unsound) in record { number = whole.0; bytes = whole.1 }
 
 pub returns-in_default : goal.returns-in_default
 returns-in_default c =
     let r = taken (goal.at.returns-in_default c).After-check-c in
     let f = held r c.args.store.now in
     let negative = counted c.args.begin c.ranges.begin c.count_of.ensures.is c.in_default.is in let whole = refused_as BadArg
-    (ready (goal.at.returns-in_default c).Else-data-gt-MOST_PACKET ∙ frames_before c.args.self_delimited c.args.pad (upper_six r.toc) f c.args.«data».now c.args.begin c.args.end negative) in record { number = whole.0; bytes = whole.1 }
+    (ready (goal.at.returns-in_default c).Else-data-gt-MOST_PACKET ∙ frames_before c.args.self_delimited c.args.pad (upper_six r.toc) f
+    c.args.«data».now c.args.begin c.args.end negative) in record { number = whole.0; bytes = whole.1 }
 
 pub returns-in_default-count_of : goal.returns-in_default-count_of
 returns-in_default-count_of c =
     let r = taken (goal.at.returns-in_default-count_of c).After-check-c in
     let f = held r c.args.store.now in
     let negative = counted c.args.end c.ranges.end c.count_of-2.ensures.is c.in_default-count_of.is in let whole = refused_as BadArg
-    (ready (goal.at.returns-in_default-count_of c).Else-data-gt-MOST_PACKET ∙ frames_under c.args.self_delimited c.args.pad (upper_six r.toc) f c.args.«data».now c.args.begin c.args.end negative) in record { number = whole.0; bytes = whole.1 }
+    (ready (goal.at.returns-in_default-count_of c).Else-data-gt-MOST_PACKET ∙ frames_under c.args.self_delimited c.args.pad (upper_six r.toc) f
+    c.args.«data».now c.args.begin c.args.end negative) in record { number = whole.0; bytes = whole.1 }
 
 pub returns : goal.returns
 returns c =
     let r = taken (goal.at.returns c).After-check-c in
     let begins = is_natural c.args.begin _ (counted c.args.begin c.ranges.begin c.count_of.ensures.is c.in-Is.is) in
-    let ends = is_natural c.args.end _ (counted c.args.end c.ranges.end c.count_of-2.ensures.is c.in-Is-count_of.is) in let whole = meets_number (ready (goal.at.returns c).Else-data-gt-MOST_PACKET ∙ frames_natural c.args.self_delimited c.args.pad (upper_six r.toc) (held r c.args.store.now) c.args.«data».now begins ends)
+    let ends = is_natural c.args.end _ (counted c.args.end c.ranges.end c.count_of-2.ensures.is c.in-Is-count_of.is) in
+    let whole = meets_number (ready (goal.at.returns c).Else-data-gt-MOST_PACKET ∙ frames_natural c.args.self_delimited c.args.pad (upper_six r.toc)
+    (held r c.args.store.now) c.args.«data».now begins ends)
     c.out_frames.ensures.number c.out_frames.ensures.bytes in record { number = whole.0; bytes = whole.1 }

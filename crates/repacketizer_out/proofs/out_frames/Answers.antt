@@ -1,7 +1,4 @@
 -- `repacketizer_out::out_frames` meets its contract: the range of the lengths held, and where its frames stand in the store.
--- the collector is as the code can have it
--- the range is within the frames held
--- where it begins
 use Prim.Native.Nat.{◌≤◌, ◌<◌}
 use mathlib.Core.Path.{◌≡◌, sym}
 use native.Mathlib.Omega.{arith}
@@ -20,7 +17,6 @@ use Rattle.repacketizer_out.proofs.Outputs.{refused_as, frames_none, held_past, 
 use Rattle.repacketizer_out.proofs.out_frames.Goals as goal
 use Rattle.repacketizer_out.proofs.out_frames.Goals.{After-wide, Else-n-end, Start}
 
--- `repacketizer_out::out_frames` meets its contract: the range of the lengths held, and where its frames stand in the store.
 -- the collector is as the code can have it
 byte : (c : Start) → c.args.h.toc < 256
 byte c = search rules
@@ -34,7 +30,8 @@ within c = omega (arith, c.wide-n.ensures.0)
 
 part : (c : Else-n-end) → Part (bare c.args.h c.args.len.now) c.args.begin c.args.end
 part c =
-    part_of (bare c.args.h c.args.len.now) (holding (bare c.args.h c.args.len.now) (search rules) c.requires.collector.0 c.requires.collector.1) c.args.begin c.args.end c.if-end-begin.false (within c)
+    part_of (bare c.args.h c.args.len.now) (holding (bare c.args.h c.args.len.now) (search rules) c.requires.collector.0 c.requires.collector.1)
+    c.args.begin c.args.end c.if-end-begin.false (within c)
 
 -- where it begins
 from : (c : After-wide)
@@ -55,7 +52,8 @@ returns-then-end-begin c =
 pub returns-then-n-end : goal.returns-then-n-end
 returns-then-n-end c =
     let whole = refused_as BadArg
-    (held_past c.args.self_delimited c.args.pad (bare c.args.h c.args.len.now) c.args.store.now c.args.«data».now (holds (goal.at.returns-then-n-end c).Start) c.args.begin c.args.end
+    (held_past c.args.self_delimited c.args.pad (bare c.args.h c.args.len.now) c.args.store.now c.args.«data».now
+    (holds (goal.at.returns-then-n-end c).Start) c.args.begin c.args.end
     c.if-end-begin.false (omega (arith, c.wide-n.ensures.0))) in record { number = whole.0; bytes = whole.1 }
 
 pub slice_bounds-total_16-end : goal.slice_bounds-total_16-end
@@ -73,7 +71,8 @@ put_frames-requires c =
 pub returns : goal.returns
 returns c =
     let whole = meets_number
-    (held-within c.args.self_delimited c.args.pad (bare c.args.h c.args.len.now) c.args.store.now c.args.«data».now (holds (goal.at.returns c).Start) c.args.begin c.args.end
+    (held-within c.args.self_delimited c.args.pad (bare c.args.h c.args.len.now) c.args.store.now c.args.«data».now (holds (goal.at.returns c).Start)
+    c.args.begin c.args.end
     c.if-end-begin.false (within (goal.at.returns c).Else-n-end) (from (goal.at.returns c).After-wide))
     c.put_frames.ensures.number c.put_frames.ensures.bytes in record { number = whole.0; bytes = whole.1 }
 

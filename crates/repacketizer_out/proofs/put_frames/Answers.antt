@@ -1,5 +1,4 @@
 -- `repacketizer_out::put_frames` meets its contract: the packet of the chosen form, and zeros to the end where padding is asked for.
--- the header and the frames fit, so they end within the destination
 use Prim.Native.Nat.{◌+◌, ◌≤◌}
 use native.Mathlib.Omega.{arith}
 use lib.ListN.{length}
@@ -32,7 +31,8 @@ compact_bytes-need-requires c =
 
 pub returns-then-room-need : goal.returns-then-room-need
 returns-then-room-need c =
-    let whole = put_refused c.args.self_delimited c.args.pad (upper_six c.args.toc) c.args.ns.now c.args.store.now c.args.from c.args.«data».now c.requires.block.0
+    let whole = put_refused c.args.self_delimited c.args.pad (upper_six c.args.toc) c.args.ns.now c.args.store.now c.args.from c.args.«data».now
+    c.requires.block.0
     c.sums_of-m.ensures c.compact_bytes-need.ensures c.if-room-need.true in record { number = whole.0; bytes = whole.1 }
 
 pub put_packet-end-requires : goal.put_packet-end-requires
@@ -54,7 +54,8 @@ fill-requires c =
 
 pub returns-then-pad : goal.returns-then-pad
 returns-then-pad c =
-    let whole = put_padded c.args.self_delimited c.args.pad (upper_six c.args.toc) c.args.ns.now c.args.store.now c.args.from c.args.«data».now c.requires.block.0
+    let whole = put_padded c.args.self_delimited c.args.pad (upper_six c.args.toc) c.args.ns.now c.args.store.now c.args.from c.args.«data».now
+    c.requires.block.0
     c.sums_of-m.ensures c.compact_bytes-need.ensures c.if-room-need.false c.form_for-form.ensures c.put_packet-end.ensures.bytes
     c.put_packet-end.ensures.next c.if-pad.true c.fill.ensures in record { number = whole.0; bytes = whole.1 }
 
@@ -64,6 +65,7 @@ overflow_cast-result-2 c =
 
 pub returns : goal.returns
 returns c =
-    let whole = put_plain c.args.self_delimited c.args.pad (upper_six c.args.toc) c.args.ns.now c.args.store.now c.args.from c.args.«data».now c.requires.block.0
+    let whole = put_plain c.args.self_delimited c.args.pad (upper_six c.args.toc) c.args.ns.now c.args.store.now c.args.from c.args.«data».now
+    c.requires.block.0
     c.sums_of-m.ensures c.compact_bytes-need.ensures c.if-room-need.false c.form_for-form.ensures c.put_packet-end.ensures.bytes
     c.put_packet-end.ensures.next c.if-pad.false in record { number = whole.0; bytes = whole.1 }

@@ -8,7 +8,8 @@ use Rattle.repacketizer_out.proofs.put_packet.Goals as goal
 
 pub returns : goal.returns
 returns c =
-    let whole = put_block c.args.«data».now (header_of c.args.self_delimited (upper_six c.args.toc) c.args.ns.now c.args.form) c.args.store.now c.args.from c.args.ns.now c.requires.measured
+    let whole = put_block c.args.«data».now (header_of c.args.self_delimited (upper_six c.args.toc) c.args.ns.now c.args.form) c.args.store.now
+    c.args.from c.args.ns.now c.requires.measured
     c.put_header-at.ensures.bytes c.put_header-at.ensures.next c.copy_into.ensures in record { bytes = whole.0; next = whole.1 }
 
 pub copy_into-requires : goal.copy_into-requires

@@ -1,8 +1,4 @@
 -- `aveluafi::reading::aveluafi_packet_parse` meets its contract: each arm is the record of what was read, and any other packet is read whole.
--- the packet is a list of bytes
--- code 3, of a packet that is not too long
--- the record was built behind the lengths
--- any other packet of code 3
 use native.Mathlib.Omega.{arith}
 use mathlib.Core.Path.{◌≡◌, sym, ap, ◌∙◌}
 use mathlib.Core.Bool.{false}

@@ -1,9 +1,5 @@
 -- `aveluafi::reading::aveluafi_packet_parse_impl` meets its contract: a self-delimited packet that was read without an array is that record, and any
 -- other is read whole.
--- the packet is a list of bytes
--- where the length was tested, and the entry
--- the delimiting that was asked for is the one that was read
--- the packet that is read whole
 use native.Mathlib.Omega.{arith}
 use mathlib.Core.Path.{◌≡◌, sym, ap, ◌∙◌}
 use mathlib.Core.List.{[], ◌∷◌}

@@ -1,10 +1,4 @@
 -- `opus::code_3::equal_at` meets its contract: each `return` is a law of code 3, at what the tests on the way say.
--- the packet has a count byte
--- the lengths are equal
--- there are some frames, and the first byte is a byte
--- they last at most 120 ms
--- where the lengths were found to be equal
--- the padding lengths and the padding lie within the packet
 use Prim.Native.Nat.{◌+◌, ◌≤◌, ◌<◌}
 use mathlib.Core.Path.{sym, ◌∙◌}
 use mathlib.Core.Bool.{false}
@@ -46,12 +40,14 @@ returns-then-count-eq0 c =
 
 pub returns-then-not-fits : goal.returns-then-not-fits
 returns-then-not-fits c =
-    equal-time c.args.«data».now c.if-data-lt2.false c.if-data-ne3.false c.if-count_byte-ne0.false c.if-count-eq0.false _ (toc-byte (goal.at.returns-then-not-fits c).After-fits)
+    equal-time c.args.«data».now c.if-data-lt2.false c.if-data-ne3.false c.if-count_byte-ne0.false c.if-count-eq0.false _
+    (toc-byte (goal.at.returns-then-not-fits c).After-fits)
     c.samples_48k-each.ensures (sym c.fits.ensures ∙ c.if-not-fits.true)
 
 pub returns-in_default : goal.returns-in_default
 returns-in_default c =
-    equal_unfit c.args.«data».now c.if-data-lt2.false c.if-data-ne3.false c.if-count_byte-ne0.false c.if-count-eq0.false _ (toc-byte (goal.at.returns-in_default c).After-fits)
+    equal_unfit c.args.«data».now c.if-data-lt2.false c.if-data-ne3.false c.if-count_byte-ne0.false c.if-count-eq0.false _
+    (toc-byte (goal.at.returns-in_default c).After-fits)
     c.samples_48k-each.ensures (sym c.fits.ensures ∙ c.if-not-fits.false) (sym c.read_padding-padding.ensures ∙ c.in_default.is)
 
 pub overflow_add-first : goal.overflow_add-first
@@ -72,6 +68,7 @@ shared-requires c =
 
 pub returns : goal.returns
 returns c =
-    equal_shared c.args.«data».now c.if-data-lt2.false c.if-data-ne3.false c.if-count_byte-ne0.false c.if-count-eq0.false _ (toc-byte (goal.at.returns c).After-fits)
+    equal_shared c.args.«data».now c.if-data-lt2.false c.if-data-ne3.false c.if-count_byte-ne0.false c.if-count-eq0.false _
+    (toc-byte (goal.at.returns c).After-fits)
     c.samples_48k-each.ensures (sym c.fits.ensures ∙ c.if-not-fits.false) _ _
     (sym c.read_padding-padding.ensures ∙ c.in-Whole.is) c.shared.ensures

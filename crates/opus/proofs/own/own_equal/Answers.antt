@@ -1,5 +1,4 @@
 -- `opus::own::own_equal` meets its contract: the frames say their one length.
--- the length field
 use mathlib.Core.Path.{sym, ◌∙◌}
 use Rattle.opus_size.proofs.At.{Found, whole_was, short_was}
 use Rattle.opus.proofs.AtOwn.{own_equal-cut, own_equal-over, own_equal-fits}

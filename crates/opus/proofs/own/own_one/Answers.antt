@@ -1,5 +1,4 @@
 -- `opus::own::own_one` meets its contract: the frame says its length.
--- the length field
 use mathlib.Core.Path.{sym, ◌∙◌}
 use Rattle.opus_size.proofs.At.{Found, whole_was, short_was}
 use Rattle.opus.proofs.AtOwn.{own_one_cut, own_one_over, own_one_fits}

@@ -1,7 +1,4 @@
 -- `opus::own::own_unequal` meets its contract: each frame says its length.
--- the first frame's length field
--- where the first frame was found to fit, and its length
--- the second frame's length field
 use mathlib.Core.Path.{sym, ◌∙◌}
 use Rattle.opus_size.proofs.At.{Found, whole_was, short_was}
 use Rattle.opus.proofs.AtOwn.{own_unequal-cut, own_unequal-over, own_second_cut, own_second_over, own_second_fits}

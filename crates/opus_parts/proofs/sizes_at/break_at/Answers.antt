@@ -1,5 +1,4 @@
 -- `opus_parts::sizes_at::break_at` meets its contract. The invariant: the fields from here on break where all of them do.
--- the field that was read
 use mathlib.Core.Path.{sym, ◌∙◌}
 use borrow.Author.Rules.{rules}
 use Rattle.opus_size.proofs.At.{Found, whole_was, short_was}

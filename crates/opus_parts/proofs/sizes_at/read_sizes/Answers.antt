@@ -1,6 +1,5 @@
 -- `opus_parts::sizes_at::read_sizes` meets its contract. The invariant: the array is the lengths read so far, and they with the fields from
 -- here on are all the fields, or the last length is too long by itself.
--- the field of this turn
 use Prim.Native.Nat.{◌<◌}
 use mathlib.Core.Path.{refl, sym}
 use mathlib.Core.Logic.{⊎_elim}
@@ -18,9 +17,11 @@ turned c =
     let inside : c.loop-i.next < length c.args.s.now = omega (arith, c.loop-i.invariant.summed, c.if-s-used.false) in
     ⊎_elim
     (λ w.
-    taken_two c.args.s.now c.loop-i.next c.loop-i.used c.wide_byte-last.result c.wide_byte-last.ensures.0 c.if-last-ge252.last c.if-last-ge252.next c.if-last-ge252.used w.if-s-next.false w.if-last-ge252.true c.wide_byte-last.ensures.1
+    taken_two c.args.s.now c.loop-i.next c.loop-i.used c.wide_byte-last.result c.wide_byte-last.ensures.0 c.if-last-ge252.last c.if-last-ge252.next
+    c.if-last-ge252.used w.if-s-next.false w.if-last-ge252.true c.wide_byte-last.ensures.1
     w.wide_byte-more.result w.wide_byte-more.ensures.0 w.wide_byte-more.ensures.1 w.last-is w.next-is w.used-is)
-    (λ w. taken_one c.args.s.now c.loop-i.next c.loop-i.used c.wide_byte-last.result c.wide_byte-last.ensures.0 c.if-last-ge252.last c.if-last-ge252.next c.if-last-ge252.used inside w.if-last-ge252.false w.last-is w.next-is w.used-is)
+    (λ w. taken_one c.args.s.now c.loop-i.next c.loop-i.used c.wide_byte-last.result c.wide_byte-last.ensures.0 c.if-last-ge252.last
+    c.if-last-ge252.next c.if-last-ge252.used inside w.if-last-ge252.false w.last-is w.next-is w.used-is)
     c.if-last-ge252.branch-raw
 
 pub loop-i-init : goal.loop-i-init
@@ -42,7 +43,8 @@ bounds-s-next c =
 pub returns-then-s-next : goal.returns-then-s-next
 returns-then-s-next c =
     let inside : c.loop-i.next < length c.args.s.now = omega (arith, c.loop-i.invariant.summed, c.if-s-used.false) in
-    let none = short_was c.args.s.now c.loop-i.next (sym (at_cut c.args.s.now c.loop-i.next inside (omega (arith, c.wide_byte-last.ensures.0, c.if-last-ge252.true)) c.if-s-next.true)) in
+    let none = short_was c.args.s.now c.loop-i.next (sym (at_cut c.args.s.now c.loop-i.next inside
+    (omega (arith, c.wide_byte-last.ensures.0, c.if-last-ge252.true)) c.if-s-next.true)) in
     sizes-cut _ _ _ _ _ _ _ c.loop-i.invariant c.loop-i-test.true c.if-s-used.false none _ (omega arith) _
 
 pub cut_at-requires-then-s-used-2 : goal.cut_at-requires-then-s-used-2
