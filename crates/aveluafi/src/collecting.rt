@@ -160,6 +160,8 @@ pub extern "C" fn aveluafi_repacketizer_out_packet(
     ensures { (result ≡ (out_numbered rp.now store.now number «data».old).report.number)
         × («data».new ≡ (out_numbered rp.now store.now number «data».old).bytes) }
 {
+    // The proof knows that a field behind a reference is a byte where the body reads it.
+    let _toc = rp.toc;
     let r = repacketizer_out::by_number::range_of(rp.nb_frames, &rp.packet, number);
     aveluafi_repacketizer_out_range_impl(rp, store, r.begin, r.end, data, false, false)
 }
