@@ -1,6 +1,5 @@
-// The collector, lent to each call and updated there, as in the crate; exported. Each call takes it by reference, reads its head, lends its
-// lengths and numbers on to the core, and is proved by a walk of its code by hand; the crate walks, proofs/Heads.antt and proofs/Params.antt have what the
-// walks share, both adds are one walk (proofs/collecting/TwoAdds.antt), and three outputs have one call (ThreeOuts.antt).
+// The collector, lent to each call and updated there, as in the crate; exported. Each call takes it by reference, reads its head, and lends its lengths and
+// numbers on to the core. Both adds are one function.
 ghost use Rattle.std.specs.Prelude.{◌≡◌, false};
 ghost use Rattle.opus_defines.specs.Numbers.{number_of};
 ghost use Rattle.collector.specs.Collector.{empty, nb_frames_held};
