@@ -9,7 +9,7 @@ use Rattle.compaction.proofs.Going.{Going, same_long, begun}
 use Rattle.compaction.proofs.Running.{runs_move, run_done}
 use Rattle.compaction.proofs.Turns.{advanced, last_one, stands_there, on_move, nothing_put, one_put}
 use Rattle.compaction.proofs.share_from.Goals as goal
-use Rattle.compaction.proofs.share_from.Goals.{At-loop-dst, After-run_from-run, After-slice_known-else-run-ne0-1, After-struct_known-else-run-ne0-1}
+use Rattle.compaction.proofs.share_from.Goals.{At-loop-dst, After-run_from-run, After-put_record-k, After-next_record-next}
 
 -- at the loop: the capture's bytes
 known : (c : At-loop-dst) → Bytes c.args.«data».now
@@ -27,14 +27,14 @@ bounds : (c : After-run_from-run)
 bounds c = let e = c.run_from-run.ensures in (e.fits.0, runs_move e.run, e.fits.2)
 
 -- a record
-moves : (c : After-struct_known-else-run-ne0-1)
+moves : (c : After-next_record-next)
     → (c.loop-dst.passed + c.next_record-next.result.passed ≤ length c.args.«data».now)
     × (c.args.start + c.loop-dst.written + (c.loop-dst.passed + c.next_record-next.result.passed) ≤ c.next_record-next.result.place)
     × (c.next_record-next.result.place ≤ length c.args.«data».now)
 moves c = advanced c.loop-dst.invariant c.next_record-next.result c.next_record-next.ensures
 
 -- behind `put_record`, where it put the record
-gone-on : (c : After-slice_known-else-run-ne0-1) → (c.put_record-k.result ≡ 0 → ⊥)
+gone-on : (c : After-put_record-k) → (c.put_record-k.result ≡ 0 → ⊥)
     → Going c.args.«data».now c.args.start c.args.budget c.args.dst.now c.put_record-k.new.dst
     (c.next_record-next.result.place + 5 + c.next_record-next.result.length) (c.loop-dst.records + 1)
     (c.loop-dst.written + c.put_record-k.result) (c.loop-dst.passed + c.next_record-next.result.passed)
@@ -92,11 +92,11 @@ loop-dst-preserved-then-run-ne0 c =
 
 pub overflow_add-passed : goal.overflow_add-passed
 overflow_add-passed c =
-    omega (arith, moves c)
+    omega (arith, moves (goal.at.overflow_add-passed c).After-next_record-next)
 
 pub stopped-requires : goal.stopped-requires
 stopped-requires c =
-    (moves (goal.at.stopped-requires c).After-struct_known-else-run-ne0-1).1
+    (moves (goal.at.stopped-requires c).After-next_record-next).1
 
 pub shape_of-dst-then-n-eq0 : goal.shape_of-dst-then-n-eq0
 shape_of-dst-then-n-eq0 c =
@@ -118,7 +118,7 @@ put_record-k-requires c =
 
 pub stopped-requires-then-k-eq0 : goal.stopped-requires-then-k-eq0
 stopped-requires-then-k-eq0 c =
-    (moves (goal.at.stopped-requires-then-k-eq0 c).After-struct_known-else-run-ne0-1).1
+    (moves (goal.at.stopped-requires-then-k-eq0 c).After-next_record-next).1
 
 pub shape_of-dst-then-k-eq0 : goal.shape_of-dst-then-k-eq0
 shape_of-dst-then-k-eq0 c =
@@ -136,28 +136,28 @@ pub overflow_add-written-else-run-ne0 : goal.overflow_add-written-else-run-ne0
 overflow_add-written-else-run-ne0 c =
     omega (
       arith,
-      (gone-on (goal.at.overflow_add-written-else-run-ne0 c).After-slice_known-else-run-ne0-1 c.if-k-eq0.false).room,
+      (gone-on (goal.at.overflow_add-written-else-run-ne0 c).After-put_record-k c.if-k-eq0.false).room,
       roomy
           (goal.at.overflow_add-written-else-run-ne0 c).At-loop-dst,
     )
 
 pub overflow_add-records-else-run-ne0 : goal.overflow_add-records-else-run-ne0
 overflow_add-records-else-run-ne0 c =
-    let g = gone-on (goal.at.overflow_add-records-else-run-ne0 c).After-slice_known-else-run-ne0-1 c.if-k-eq0.false in omega (arith, g.few, g.inside)
+    let g = gone-on (goal.at.overflow_add-records-else-run-ne0 c).After-put_record-k c.if-k-eq0.false in omega (arith, g.few, g.inside)
 
 pub overflow_add-at : goal.overflow_add-at
 overflow_add-at c =
-    omega (arith, (gone-on (goal.at.overflow_add-at c).After-slice_known-else-run-ne0-1 c.if-k-eq0.false).inside)
+    omega (arith, (gone-on (goal.at.overflow_add-at c).After-put_record-k c.if-k-eq0.false).inside)
 
 pub overflow_add-at-else-run-ne0 : goal.overflow_add-at-else-run-ne0
 overflow_add-at-else-run-ne0 c =
-    omega (arith, (gone-on (goal.at.overflow_add-at-else-run-ne0 c).After-slice_known-else-run-ne0-1 c.if-k-eq0.false).inside)
+    omega (arith, (gone-on (goal.at.overflow_add-at-else-run-ne0 c).After-put_record-k c.if-k-eq0.false).inside)
 
 pub loop-dst-smaller : goal.loop-dst-smaller
 loop-dst-smaller c =
     let on = on_move c.loop-dst.invariant c.next_record-next.result c.next_record-next.ensures c.if-n-eq0.false in
-    omega (arith, on, (gone-on (goal.at.loop-dst-smaller c).After-slice_known-else-run-ne0-1 c.if-k-eq0.false).inside)
+    omega (arith, on, (gone-on (goal.at.loop-dst-smaller c).After-put_record-k c.if-k-eq0.false).inside)
 
 pub loop-dst-preserved : goal.loop-dst-preserved
 loop-dst-preserved c =
-    gone-on (goal.at.loop-dst-preserved c).After-slice_known-else-run-ne0-1 c.if-k-eq0.false
+    gone-on (goal.at.loop-dst-preserved c).After-put_record-k c.if-k-eq0.false
