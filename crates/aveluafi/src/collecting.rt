@@ -1,6 +1,5 @@
-// The collector, lent to each call and updated there, as in the crate; exported. Each call takes it by reference, reads its head, lends its
-// lengths and numbers on to the core, and is proved by a walk of its code by hand; the crate walks, proofs/Heads.antt and proofs/Params.antt have what the
-// walks share, both adds are one walk (proofs/collecting/TwoAdds.antt), and three outputs have one call (ThreeOuts.antt).
+// The collector, lent to each call and updated there, as in the crate; exported. Each call takes it by reference, reads its head, and lends its lengths and
+// numbers on to the core. Both adds are one function.
 ghost use Rattle.std.specs.Prelude.{◌≡◌, false};
 ghost use Rattle.opus_defines.specs.Numbers.{number_of};
 ghost use Rattle.collector.specs.Collector.{empty, nb_frames_held};
@@ -160,6 +159,8 @@ pub extern "C" fn aveluafi_repacketizer_out_packet(
     ensures { (result ≡ (out_numbered rp.now store.now number «data».old).report.number)
         × («data».new ≡ (out_numbered rp.now store.now number «data».old).bytes) }
 {
+    // The proof knows that a field behind a reference is a byte where the body reads it.
+    let _toc = rp.toc;
     let r = repacketizer_out::by_number::range_of(rp.nb_frames, &rp.packet, number);
     aveluafi_repacketizer_out_range_impl(rp, store, r.begin, r.end, data, false, false)
 }

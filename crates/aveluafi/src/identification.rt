@@ -29,7 +29,7 @@ pub extern "C" fn aveluafi_head_read(data: &[u8]) -> AveluafiHead
 }
 
 // Writes a header of the fields at the front of `dst`, and answers its bytes. The fields are lent, and go on by value: the copy is little beside the
-// tests, and the walk by hand has nothing to lend.
+// tests.
 #[unsafe(no_mangle)]
 pub extern "C" fn aveluafi_head_write(head: &OpusHead, dst: &mut [u8]) -> i32
     ensures { (result ≡ (head_write head.now dst.old).report.number)

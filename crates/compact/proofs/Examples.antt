@@ -47,7 +47,8 @@ did r n w c p = record { verdict = Accepted; resume = r; records = n; written = 
 shares : shared_by 99 (parts chunks) ∷ shared_by 22 (parts chunks) ∷ shared_by 8 (parts chunks) ∷ shared_by 21 (parts chunks)
     ∷ shared_by 7 (parts chunks) ∷ []
     ≡ did 25 3 22 1 2 ∷ did 25 3 22 1 2 ∷ did 9 1 8 1 0 ∷ did 17 2 15 1 1 ∷ did 0 0 0 0 0 ∷ []
-unfolding shared_by share_of parts_from settled settled_in done stop account packet_length packet_at before record_from next_record record_bytes readings_in spelling
+unfolding shared_by share_of parts_from settled settled_in done stop account packet_length packet_at before record_from next_record record_bytes
+    readings_in spelling
     compact_of shorter unpad_packet read duration header compact length_field
 shares = refl
 

@@ -7,7 +7,7 @@
 -- Assumes nothing.
 use Prim.Native.Nat.{ℕ, suc, ◌+◌, ◌-◌, ◌<◌, ◌≤◌}
 use native.Mathlib.Omega.{arith}
-use mathlib.Core.Path.{◌≡◌, refl, ap, ◌∙◌}
+use mathlib.Core.Path.{◌≡◌, refl, sym, ap, ◌∙◌}
 use mathlib.Core.List.{List, [], ◌∷◌, ◌++◌, map}
 use mathlib.Core.Bool.{true, false}
 use lib.ListN.{length, drop, take, take-append-drop}
@@ -78,6 +78,11 @@ further n k x =
       passed = k + x.passed;
     }
 
+-- the records done and the answer stopped at by other names
+same_account : (s : List ℕ) {x y : NextRecord} {d e : List NextRecord} → x ≡ y → d ≡ e → accounted x (account s x d) ≡ accounted y (account s y e)
+same_account s {y = y} {d = d} p q =
+    ap (λ (z : NextRecord). accounted z (account s z d)) p ∙ ap (λ (f : List NextRecord). accounted y (account s y f)) q
+
 -- ---- the first answer
 module _ (s : List ℕ) (b : ℕ) (a : NextRecord) (more : List NextRecord) where
   in_on : (a.length ≡ 0 → ⊥) → size s a ≤ b
@@ -86,7 +91,7 @@ module _ (s : List ℕ) (b : ℕ) (a : NextRecord) (more : List NextRecord) wher
   unfolding account
   in_on f h =
       let k = goes_on s b a more (some_fits s b a f h) in
-      (rw (k.0, k.1), rw k.0 (output_one s a (done s (b - size s a) more)))
+      (same_account s k.1 k.0, rw k.0 (output_one s a (done s (b - size s a) more)))
 
   in_end : fits s b a ≡ false
       → (share_in s b (a ∷ more) ≡ record { verdict = Accepted; resume = a.place; records = 0; written = 0; reclaimed = 0; passed = a.passed })
@@ -105,7 +110,11 @@ module _ (s : List ℕ) (b : ℕ) (a : NextRecord) (more : List NextRecord) wher
       by_test (fits s b a)
       (λ t. let x = goes_on s b first more t in
       let y = goes_on s b a more t in
-      (rw (x.0, x.1, y.0, y.1) (same-share (omega arith) refl refl refl (omega arith)), rw (x.0, y.0)))
+      let z = stop s (b - size s a) more in
+      let ds = done s (b - size s a) more in
+      let further_on : accounted z (account s z (first ∷ ds)) ≡ further 0 k (accounted z (account s z (a ∷ ds))) =
+      same-share (omega arith) refl refl refl (omega arith) in
+      (same_account s x.1 x.0 ∙ (further_on ∙ ap (further 0 k) (sym (same_account s y.1 y.0))), rw (x.0, y.0)))
       (λ t. let x = stops_here s b first more t in
       let y = stops_here s b a more t in
       (rw (x.0, x.1, y.0, y.1) (same-share (omega arith) refl refl refl (omega arith)), rw (x.0, y.0)))

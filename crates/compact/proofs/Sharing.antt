@@ -3,7 +3,7 @@
 --     share_ample, share-min    a budget that holds the part does all of it, and a larger one does the same
 --     Shares, shares_none, shares_on     shares joined, of parts that were done to their ends
 -- Assumes nothing.
-use Prim.Native.Nat.{ℕ, ◌+◌, ◌-◌, ◌≤◌, min}
+use Prim.Native.Nat.{ℕ, ◌+◌, ◌≤◌, min}
 use native.Mathlib.Omega.{arith}
 use mathlib.Core.Path.{◌≡◌, refl, sym, ap, ◌∙◌}
 use mathlib.Core.List.{List, [], ◌∷◌}

@@ -7,8 +7,10 @@ ghost use Rattle.std.specs.Prelude.{◌≡◌, ◌+◌, ◌<◌, ◌≤◌, ◌^
 ghost use Rattle.compact.specs.Stream.{share_of, joined as Stream·joined, none as Stream·none};
 
 use compaction::Share;
-use libc::{STDERR_FILENO, STDIN_FILENO};
 use opus_defines::Verdict;
+use show::STDERR_FILENO;
+use std::env::{Env, FillError};
+use std::io::Stdin;
 
 // The bytes held at most, and those written at a time.
 const ROOM: usize = 262144;
@@ -105,7 +107,7 @@ fn put_part(data: &[u8], budget: usize) -> Put
     Put { ok, share }
 }
 
-fn compact(buf: &mut [u8], budget: usize)
+fn compact(from: &mut Stdin, buf: &mut [u8], budget: usize)
     requires { length buf.old ≡ 262144 }
 {
     let mut all = no_share();
@@ -113,7 +115,7 @@ fn compact(buf: &mut [u8], budget: usize)
     let mut done: usize = 0;
     let mut held: usize = 0;
     while done < MOST {
-        let p = capture_parts::read_part(STDIN_FILENO, buf, held);
+        let p = capture_parts::read_part(from, buf, held);
         let n = p.bytes;
         let there = p.held;
         if !p.ok {
@@ -143,24 +145,27 @@ fn compact(buf: &mut [u8], budget: usize)
 }
 
 // The budget that the first word names; without one there is no bound, and what is not a number of at most 18 digits is none.
-fn budget() -> words::Number {
-    if os::arg_count() < 2 {
-        return words::Number {
+fn budget<R: Env>(rt: &R) -> words::Number {
+    let mut text = [0u8; 32];
+    match rt.arg(1, &mut text) {
+        Ok(n) => words::decimal(&text[..n]),
+        Err(FillError::NotPresent) => words::Number {
             ok: true,
             value: MOST,
-        };
+        },
+        Err(_) => words::Number {
+            ok: false,
+            value: 0,
+        },
     }
-    let mut text = [0u8; 32];
-    let n = os::arg(1, &mut text);
-    words::decimal(&text[..n])
 }
 
-fn main() {
-    let b = budget();
+fn main(rt: HostRuntime) {
+    let b = budget(&rt);
     if !b.ok {
         show::text(b"refused -1\n");
         return;
     }
     let mut buf = [0u8; ROOM];
-    compact(&mut buf, b.value);
+    compact(&mut rt.stdin(), &mut buf, b.value);
 }

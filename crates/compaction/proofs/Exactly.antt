@@ -23,7 +23,7 @@ use Rattle.capture.proofs.Steps.{reading_induction}
 use Rattle.compaction.specs.Account.{size, output, account}
 use Rattle.compaction.specs.Share.{fits, done, stop, refuses, stopping, night}
 use Rattle.compaction.proofs.Entries.{next-size}
-use Rattle.compaction.proofs.Steps.{none-fits, over-fits, stops_here, goes_on, begin_with, stops}
+use Rattle.compaction.proofs.Steps.{none-fits, over-fits, stops_here, goes_on, account_one, begin_with, stops}
 use Rattle.compaction.proofs.Going.{output-none}
 use Rattle.compaction.proofs.Nights.{night_past, night-short, night-within, stopping-over}
 use Rattle.compaction.proofs.Whole.{output-size, fits_some}
@@ -66,7 +66,6 @@ spans_here s at b more h t =
 
 spans_later : (s : List ℕ) (at b : ℕ) (more : List NextRecord) → at ≤ length s → fits s b (next_record s at) ≡ true
     → Spans s (behind (next_record s at)) (b - size s (next_record s at)) more → Spans s at b (next_record s at ∷ more)
-unfolding account
 spans_later s at b more h t m =
     let a = next_record s at in
     let f = fits_some s b a t in
@@ -74,7 +73,7 @@ spans_later s at b more h t m =
     let ds = done s (b - size s a) more in
     let fit = fits-size s b a t in
     record {
-      reached = rw (k.0, k.1) (omega (arith, m.reached, next_place s at h, next_passed s at h, (found s at f).next, next-size s at h f));
+      reached = rw (k.0, k.1, account_one) (omega (arith, m.reached, next_place s at h, next_passed s at h, (found s at f).next, next-size s at h f));
       within = rw k.0 (omega (arith, output-size s a ds, m.within));
       before = rw (k.0, k.1) (λ g. omega (arith, output-size s a ds, m.before g));
     }

@@ -57,6 +57,7 @@ pub written_bytes : bytes 0 24 24 ∷ bytes 0 10 8 ∷ bytes 0 10 7 ∷ []
     ≡ (0x4b ∷ 0x9d ∷ 0x01 ∷ 0x00 ∷ 0x03 ∷ 0x01 ∷ 0xaa ∷ 0xbb ∷ 0x4b ∷ 0x9d ∷ 0x02 ∷ 0x00 ∷ 0x02 ∷ 0x03 ∷ 0x00
     ∷ 0x4b ∷ 0x9d ∷ 0x03 ∷ 0x00 ∷ 0x02 ∷ 0x00 ∷ 0xaa ∷ 238 ∷ 238 ∷ [])
     ∷ (0x4b ∷ 0x9d ∷ 0x01 ∷ 0x00 ∷ 0x03 ∷ 0x01 ∷ 0xaa ∷ 0xbb ∷ 238 ∷ 238 ∷ []) ∷ replicate 10 238 ∷ []
-unfolding night done stop written file_of packet_length packet_at before record_from next_record record_bytes readings_in spelling compact_of shorter unpad_packet
+unfolding night done stop written file_of packet_length packet_at before record_from next_record record_bytes readings_in spelling compact_of shorter
+    unpad_packet
     read duration header compact length_field
 written_bytes = refl

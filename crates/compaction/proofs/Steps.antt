@@ -15,7 +15,7 @@ use Rattle.capture.proofs.Steps.{readings_end, readings_on}
 use Rattle.laws.proofs.Never.{by_test}
 use lib.Dec.{eqb}
 use borrow.Author.Tests.{eqb-true, eqb-false}
-use Rattle.compaction.specs.Account.{size}
+use Rattle.compaction.specs.Account.{size, account, counting}
 use Rattle.compaction.specs.Share.{fits, done, stop}
 
 -- ---- an answer at the front
@@ -42,6 +42,11 @@ module _ (s : List ℕ) (left : ℕ) (a : NextRecord) where
         × (stop s left (a ∷ more) ≡ stop s (left - size s a) more)
     unfolding done stop
     goes_on e = (rw e, rw e)
+
+-- the account of one record more
+pub account_one : (s : List ℕ) (stop a : NextRecord) (done : List NextRecord) → account s stop (a ∷ done) ≡ counting s a (account s stop done)
+unfolding account
+account_one s stop a done = refl
 
 -- ---- the answer at a place
 module _ (s : List ℕ) (at left : ℕ) (inside : at ≤ length s) where

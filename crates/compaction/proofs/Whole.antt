@@ -24,7 +24,7 @@ use Rattle.compaction.specs.Account.{rewritten, size, output, Account, counting,
 use Rattle.compaction.specs.Share.{fits, done, stop}
 use Rattle.compaction.specs.Nights.{together}
 use Rattle.compaction.proofs.Entries.{size-written}
-use Rattle.compaction.proofs.Steps.{none-fits, some_fits, stops_here, goes_on}
+use Rattle.compaction.proofs.Steps.{none-fits, some_fits, stops_here, goes_on, account_one}
 use Rattle.compaction.proofs.Going.{adding, same-account, output-none, output_one}
 
 -- ---- the records among answers
@@ -114,13 +114,12 @@ ample_end s b a z =
 
 ample_on : (s : List ℕ) (b : ℕ) (a : NextRecord) (more : List NextRecord) → (a.length ≡ 0 → ⊥) → size s a ≤ b → Ample s (b - size s a) more
     → Ample s b (a ∷ more)
-unfolding account
 ample_on s b a more f h m =
     let k = goes_on s b a more (some_fits s b a f h) in
     record {
       dones = k.0 ∙ (ap (λ (l : List NextRecord). a ∷ l) m.dones ∙ sym (records_one a more f));
       stopped = rw k.1 m.stopped;
-      accounts = rw (k.0, k.1) (ap (counting s a) m.accounts ∙ sym (whole_one s a more f));
+      accounts = rw (k.0, k.1, account_one) (ap (counting s a) m.accounts ∙ sym (whole_one s a more f));
     }
 
 pub ample : (s : List ℕ) (at : ℕ) → at ≤ length s → (b : ℕ) → length (output s (records_in (readings s at))) ≤ b → Ample s b (readings s at)

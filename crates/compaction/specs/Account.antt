@@ -1,7 +1,7 @@
 -- What becomes of the records of a capture that are rewritten, and the plain account of them (document 02, M-103).
 use Rattle.std.specs.Prelude.{ℕ, suc, ◌+◌, ◌-◌, List, [], ◌∷◌, map, length}
 use Rattle.opus_defines.specs.Bounds.{most_packet}
-use Rattle.capture.specs.Records.{Entry, head_bytes, written, file_of}
+use Rattle.capture.specs.Records.{Entry, head_bytes, file_of}
 use Rattle.capture.specs.Reading.{entry_of, entries}
 use Rattle.capture.specs.declared.NextRecord.{NextRecord}
 use Rattle.spelling.specs.Spelling.{shorter}

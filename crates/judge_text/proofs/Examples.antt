@@ -57,7 +57,8 @@ lines =
     ∷ 116 ∷ 97 ∷ 108 ∷ 32 ∷ 99 ∷ 108 ∷ 101 ∷ 97 ∷ 110 ∷ 32 ∷ 52 ∷ 10 ∷ []
 
 pub example_lines : verdict_lines verdicts ++ totals (tally_of verdicts) ≡ lines
-unfolding verdict_lines verdict_line unreadable_label dirty_text longer_label clean_text totals total_unreadable total_dirty total_longer total_clean decimal places
+unfolding verdict_lines verdict_line unreadable_label dirty_text longer_label clean_text totals total_unreadable total_dirty total_longer total_clean
+    decimal places
 example_lines = refl
 
 pub example_text : judge_text sample ≡ lines
@@ -65,7 +66,8 @@ example_text = text_read sample (omega arith) ∙ rw example_verdicts example_li
 
 -- by parts, through 90 bytes: one or two lines at a time, then the totals
 pub example_parts : printed 12 sample 0 none 90 ≡ lines
-unfolding printed part_from lines_in verdict_line unreadable_label dirty_text longer_label clean_text totals total_unreadable total_dirty total_longer total_clean
+unfolding printed part_from lines_in verdict_line unreadable_label dirty_text longer_label clean_text totals total_unreadable total_dirty
+    total_longer total_clean
     decimal places judged judge_read least_bytes read duration compact header packet_at packet_length next_record record_from before record_bytes
 example_parts = refl
 

@@ -8,6 +8,7 @@ use replay_io::input::{Cursor, Line, NumberAt, Taken, fields, one};
 use replay_io::output::{Flush, flushed, put, text, written};
 use replay_orders::orders_case;
 use replay_streams::join_case;
+use std::io::Stdin;
 
 // ---- kinds whose fields are read at once
 
@@ -49,6 +50,7 @@ fn plain_line(
 }
 
 fn plain_case(
+    from: &mut Stdin,
     input: &mut [u8],
     c: Cursor,
     work: &mut [u8],
@@ -58,7 +60,7 @@ fn plain_case(
     kind: usize,
 ) -> Line {
     let mut ns = [0usize; 10];
-    let Taken::Whole(d) = fields(input, c, form(kind), &mut ns, work) else {
+    let Taken::Whole(d) = fields(from, input, c, form(kind), &mut ns, work) else {
         return Line::Malformed;
     };
     Line::Is(d, plain_line(kind, &ns, work, store, out, at))
@@ -67,6 +69,7 @@ fn plain_case(
 // ---- all kinds
 
 fn case(
+    from: &mut Stdin,
     input: &mut [u8],
     c: Cursor,
     work: &mut [u8],
@@ -76,13 +79,13 @@ fn case(
     kind: usize,
 ) -> Line {
     match kind {
-        2 => collect_case(input, c, work, store, out, at),
-        17 | 18 => places_case(input, c, work, store, out, at, kind),
-        19 => packet_case(input, c, work, store, out, at),
-        20 => range_case(input, c, work, store, out, at),
-        21 => orders_case(input, c, work, store, out, at),
-        22 => join_case(input, c, work, store, out, at),
-        _ => plain_case(input, c, work, store, out, at, kind),
+        2 => collect_case(from, input, c, work, store, out, at),
+        17 | 18 => places_case(from, input, c, work, store, out, at, kind),
+        19 => packet_case(from, input, c, work, store, out, at),
+        20 => range_case(from, input, c, work, store, out, at),
+        21 => orders_case(from, input, c, work, store, out, at),
+        22 => join_case(from, input, c, work, store, out, at),
+        _ => plain_case(from, input, c, work, store, out, at, kind),
     }
 }
 
@@ -116,20 +119,33 @@ fn turned(out: &mut [u8], c: Cursor, at: usize) -> Turn {
 }
 
 // Answers one case, if the input has not ended.
-fn answer(input: &mut [u8], work: &mut [u8], store: &mut [u8], out: &mut [u8], t: Turn) -> Turn {
+fn answer(
+    from: &mut Stdin,
+    input: &mut [u8],
+    work: &mut [u8],
+    store: &mut [u8],
+    out: &mut [u8],
+    t: Turn,
+) -> Turn {
     let at = t.out;
     let c = t.next;
-    let NumberAt::Is(kind, d) = one(input, c) else {
+    let NumberAt::Is(kind, d) = one(from, input, c) else {
         return last(c, at);
     };
-    let Line::Is(e, next) = case(input, d, work, store, out, at, kind) else {
+    let Line::Is(e, next) = case(from, input, d, work, store, out, at, kind) else {
         return last(d, text(out, at, b"malformed\n"));
     };
     turned(out, e, next)
 }
 
 // Nothing says that the input ends, so the turns are counted down.
-fn replay(input: &mut [u8], work: &mut [u8], store: &mut [u8], out: &mut [u8]) -> usize {
+fn replay(
+    from: &mut Stdin,
+    input: &mut [u8],
+    work: &mut [u8],
+    store: &mut [u8],
+    out: &mut [u8],
+) -> usize {
     let mut t = Turn {
         on: true,
         next: Cursor {
@@ -141,7 +157,7 @@ fn replay(input: &mut [u8], work: &mut [u8], store: &mut [u8], out: &mut [u8]) -
     };
     let mut left: u64 = 18446744073709551615;
     while 0 < left {
-        t = answer(input, work, store, out, t);
+        t = answer(from, input, work, store, out, t);
         if !t.on {
             return t.out;
         }
@@ -150,11 +166,11 @@ fn replay(input: &mut [u8], work: &mut [u8], store: &mut [u8], out: &mut [u8]) -
     t.out
 }
 
-fn main() {
+fn main(rt: HostRuntime) {
     let mut input = [0u8; 65536];
     let mut work = [0u8; 65536];
     let mut store = [0u8; 65536];
     let mut out = [0u8; 335872];
-    let n = replay(&mut input, &mut work, &mut store, &mut out);
+    let n = replay(&mut rt.stdin(), &mut input, &mut work, &mut store, &mut out);
     written(&out, n);
 }

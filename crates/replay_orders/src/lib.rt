@@ -9,6 +9,7 @@ use replay_collector::state::{FRAME, State, state_at};
 use replay_io::input::{Cursor, Line, Taken, fields, signed};
 use replay_io::output::{buffer, decimal, field, number, put, text};
 use replay_io::room::unset;
+use std::io::Stdin;
 
 // What an order's length is before the call.
 const UNSET_LENGTH: u32 = 238;
@@ -45,7 +46,7 @@ fn order_of(begin: usize, end: usize) -> Order {
 }
 
 // The first n of the list are the case's.
-fn list_at(input: &mut [u8], c: Cursor, work: &mut [u8], n: usize) -> Listed {
+fn list_at(from: &mut Stdin, input: &mut [u8], c: Cursor, work: &mut [u8], n: usize) -> Listed {
     let mut list = [order_of(0, 0); 255];
     let mut ns = [0usize; 10];
     let mut next = c;
@@ -54,7 +55,7 @@ fn list_at(input: &mut [u8], c: Cursor, work: &mut [u8], n: usize) -> Listed {
         if n <= i {
             return orders_so_far(true, next, list);
         }
-        let Taken::Whole(d) = fields(input, next, ORDER, &mut ns, work) else {
+        let Taken::Whole(d) = fields(from, input, next, ORDER, &mut ns, work) else {
             return orders_so_far(false, next, list);
         };
         list[i] = order_of(ns[0], ns[1]);
@@ -73,7 +74,7 @@ struct Answered {
     list: [Order; 255],
 }
 
-// The first n of the list are lent to the call, for which this is proved by a walk of its code by hand.
+// The first n of the list are lent to the call.
 fn out_many(
     h: Head,
     len: &[u16; 48],
@@ -174,6 +175,7 @@ fn line(
 
 // The case behind its room and the number of its orders.
 fn orders_from(
+    from: &mut Stdin,
     input: &mut [u8],
     c: Cursor,
     work: &mut [u8],
@@ -183,7 +185,7 @@ fn orders_from(
     s: State,
     ns: &[usize; 10],
 ) -> Line {
-    let l = list_at(input, c, work, ns[1]);
+    let l = list_at(from, input, c, work, ns[1]);
     if !l.whole {
         return Line::Malformed;
     }
@@ -195,6 +197,7 @@ fn orders_from(
 
 // The case behind its collector.
 fn orders_behind(
+    from: &mut Stdin,
     input: &mut [u8],
     work: &mut [u8],
     store: &[u8],
@@ -203,13 +206,14 @@ fn orders_behind(
     s: State,
 ) -> Line {
     let mut ns = [0usize; 10];
-    let Taken::Whole(c) = fields(input, s.behind, ORDERS, &mut ns, work) else {
+    let Taken::Whole(c) = fields(from, input, s.behind, ORDERS, &mut ns, work) else {
         return Line::Malformed;
     };
-    orders_from(input, c, work, store, out, at, s, &ns)
+    orders_from(from, input, c, work, store, out, at, s, &ns)
 }
 
 pub fn orders_case(
+    from: &mut Stdin,
     input: &mut [u8],
     c: Cursor,
     work: &mut [u8],
@@ -217,9 +221,9 @@ pub fn orders_case(
     out: &mut [u8],
     at: usize,
 ) -> Line {
-    let s = state_at(input, c, store, FRAME);
+    let s = state_at(from, input, c, store, FRAME);
     if !s.whole {
         return Line::Malformed;
     }
-    orders_behind(input, work, store, out, at, s)
+    orders_behind(from, input, work, store, out, at, s)
 }

@@ -6,7 +6,9 @@ ghost use Rattle.std.specs.Prelude.{◌≡◌, ◌≤◌, length};
 ghost use Rattle.capture.specs.Reading.{records_of};
 ghost use Rattle.same.specs.Looking.{Looked};
 
-use libc::{STDERR_FILENO, STDIN_FILENO};
+use show::STDERR_FILENO;
+use std::fs::File;
+use std::io::{Error, ErrorKind, Read, Stdin};
 
 // The bytes held at most, of each.
 const ROOM: usize = 262144;
@@ -14,8 +16,18 @@ const ROOM: usize = 262144;
 // No more bytes than this are read: no count can wrap. Nothing says that the input ends, and a proved loop does.
 const MOST: usize = 1152921504606846976;
 
-// The new capture.
-const NEW_FILE: i32 = 3;
+// The new capture: what descriptor 3 is open for, read from its front.
+const NEW_FILE: &str = "/dev/fd/3";
+
+// The new capture where descriptor 3 is not open: every read of it fails.
+#[derive(Clone, Copy)]
+struct Absent;
+
+impl Read for Absent {
+    fn read(&mut self, _buf: &mut [u8]) -> Result<usize, Error> {
+        Err(Error::from(ErrorKind::NotFound))
+    }
+}
 
 // How a part of the original was found in the new file: whether that could be read, whether all of it is the same, the records that are, and the bytes of the
 // new file that are held and not yet looked at.
@@ -28,13 +40,13 @@ struct Match {
 }
 
 // A part is never shorter than the records that are written for it, so that a full buffer, or all that is left, has them.
-fn find_part(data: &[u8], new: &mut [u8], held: usize) -> Match
+fn find_part<R: Read>(file: &mut R, data: &[u8], new: &mut [u8], held: usize) -> Match
     requires { held ≤ length new.old }
     ensures length { length new.new ≡ length new.old }
     ensures seen { Looked (records_of «data».now) new.new result }
     ensures few { (result.held ≤ length new.old) × (result.records ≤ length «data».now) }
 {
-    let input = stdio::read_on(NEW_FILE, new, held);
+    let input = stdio::read_on(file, new, held);
     let ok = input.ok;
     let n = input.bytes;
     let s = sameness::same_records(data, &new[..n]);
@@ -64,11 +76,11 @@ fn differs(records: usize) {
 }
 
 // At the end of the original the new file has no byte left.
-fn at_end(new: &mut [u8], held: usize, records: usize)
+fn at_end<R: Read>(file: &mut R, new: &mut [u8], held: usize, records: usize)
     requires { held ≤ length new.old }
     ensures length { length new.new ≡ length new.old }
 {
-    let input = stdio::read_on(NEW_FILE, new, held);
+    let input = stdio::read_on(file, new, held);
     if !input.ok {
         new_failed();
         return;
@@ -82,7 +94,7 @@ fn at_end(new: &mut [u8], held: usize, records: usize)
     show::text(b" end\n");
 }
 
-fn compare(buf: &mut [u8], new: &mut [u8])
+fn compare<R: Read>(from: &mut Stdin, file: &mut R, buf: &mut [u8], new: &mut [u8])
     requires { length buf.old ≡ 262144 }
 {
     let mut records: usize = 0;
@@ -90,14 +102,14 @@ fn compare(buf: &mut [u8], new: &mut [u8])
     let mut held: usize = 0;
     let mut left: usize = 0;
     while done < MOST {
-        let p = capture_parts::read_part(STDIN_FILENO, buf, held);
+        let p = capture_parts::read_part(from, buf, held);
         let n = p.bytes;
         let there = p.held;
         if !p.ok {
             stdio::tell_read_failed(done + there);
             return;
         }
-        let m = find_part(&buf[..n], new, left);
+        let m = find_part(file, &buf[..n], new, left);
         left = m.held;
         if !m.ok {
             new_failed();
@@ -109,7 +121,7 @@ fn compare(buf: &mut [u8], new: &mut [u8])
             return;
         }
         if p.last {
-            at_end(new, left, records);
+            at_end(file, new, left, records);
             return;
         }
         done += n;
@@ -118,8 +130,21 @@ fn compare(buf: &mut [u8], new: &mut [u8])
     too_long();
 }
 
-fn main() {
+// Standard input is open where a read of no bytes does not fail. Where it is closed nothing is opened, since a file that is would be read as standard input.
+fn is_open(from: &mut Stdin) -> bool {
+    from.read(&mut []).is_ok()
+}
+
+fn main(rt: HostRuntime) {
     let mut buf = [0u8; ROOM];
     let mut new = [0u8; ROOM];
-    compare(&mut buf, &mut new);
+    let mut from = rt.stdin();
+    if is_open(&mut from) {
+        if let Ok(file) = File::open(&rt, NEW_FILE) {
+            let mut file = file;
+            compare(&mut from, &mut file, &mut buf, &mut new);
+            return;
+        }
+    }
+    compare(&mut from, &mut Absent, &mut buf, &mut new);
 }

@@ -4,7 +4,8 @@
 ghost use Rattle.std.specs.Prelude.{◌≡◌, length};
 
 use capture_survey::Survey;
-use libc::STDIN_FILENO;
+use show::STDERR_FILENO;
+use std::io::Stdin;
 
 // The bytes held at most: so many that what is left of a part, less than a window, costs little to move.
 const ROOM: usize = 262144;
@@ -31,20 +32,17 @@ fn report(s: Survey, bytes: usize) {
 }
 
 fn too_long() {
-    io::write_all(
-        libc::STDERR_FILENO,
-        b"aveluafi: standard input is too long\n",
-    );
+    io::write_all(STDERR_FILENO, b"aveluafi: standard input is too long\n");
 }
 
-fn survey(buf: &mut [u8])
+fn survey(from: &mut Stdin, buf: &mut [u8])
     requires { length buf.old ≡ 262144 }
 {
     let mut sum = capture_survey::nothing();
     let mut done: usize = 0;
     let mut held: usize = 0;
     while done < MOST {
-        let f = capture_parts::fill(STDIN_FILENO, buf, held);
+        let f = capture_parts::fill(from, buf, held);
         let all = f.held;
         let last = f.last;
         if !f.ok {
@@ -64,7 +62,7 @@ fn survey(buf: &mut [u8])
     too_long();
 }
 
-fn main() {
+fn main(rt: HostRuntime) {
     let mut buf = [0u8; ROOM];
-    survey(&mut buf);
+    survey(&mut rt.stdin(), &mut buf);
 }

@@ -5,7 +5,6 @@ use mathlib.Core.Bool.{false}
 use mathlib.Core.List.{[], ◌∷◌}
 use borrow.Author.Rules.{rules}
 use lib.ListN.{replicate}
-use Rattle.laws.specs.Bytes.{Bytes}
 use Rattle.opus_format.specs.Frames.{padded48}
 use Rattle.opus_format.specs.Reading.{refused, read}
 use Rattle.opus_format.proofs.Facts.{facts}
@@ -115,19 +114,23 @@ pub read_packet-p-requires : goal.read_packet-p-requires
 read_packet-p-requires c =
     let some = counted_some false _ (sym c.in-Counted.is ∙ c.short_at-s.ensures) in record {
       in_bounds = (omega (arith, some), omega (arith, c.if-data-gt-MOST_PACKET-2.false));
-      zeros = search rules }
+      zeros = search rules;
+    }
 
 pub whole_packet-requires : goal.whole_packet-requires
 whole_packet-requires c =
-    omega (arith, read_few false c.args.«data».now c.read_packet-p.result c.read_packet-p.new.lengths
-      (record { byte = λ i. (c.type_inv.«data» i).fits }) (answered (goal.at.whole_packet-requires c).After-read_packet-p))
+    omega (
+      arith,
+      read_few false c.args.«data».now c.read_packet-p.result c.read_packet-p.new.lengths
+          (record { byte = λ i. (c.type_inv.«data» i).fits }) (answered (goal.at.whole_packet-requires c).After-read_packet-p),
+    )
 
 pub returns-in_default : goal.returns-in_default
 returns-in_default c =
     c.whole_packet.ensures ∙ record_read false c.args.«data».now c.read_packet-p.result c.read_packet-p.new.lengths
-      (answered (goal.at.returns-in_default c).After-read_packet-p) c.in_default.is
+    (answered (goal.at.returns-in_default c).After-read_packet-p) c.in_default.is
 
 pub returns : goal.returns
 returns c =
     c.no_packet-2.ensures ∙ record_unread false c.args.«data».now c.read_packet-p.result c.read_packet-p.new.lengths
-      (answered (goal.at.returns c).After-read_packet-p) c.in-Refused.is
+    (answered (goal.at.returns c).After-read_packet-p) c.in-Refused.is

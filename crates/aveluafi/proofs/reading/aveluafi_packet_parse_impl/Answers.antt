@@ -3,8 +3,6 @@
 use native.Mathlib.Omega.{arith}
 use mathlib.Core.Path.{◌≡◌, sym, ap, ◌∙◌}
 use mathlib.Core.List.{[], ◌∷◌}
-use borrow.Author.Rules.{rules}
-use Rattle.laws.specs.Bytes.{Bytes}
 use Rattle.opus_format.specs.Reading.{refused, read}
 use Rattle.opus_format.proofs.Within.{refused_within}
 use Rattle.opus.specs.Answers.{short_at}
@@ -17,20 +15,20 @@ one : (c : In-One)
     → Seen c.args.self_delimited c.args.«data».now (c.in-One.size ∷ []) c.in-One.first
 one c =
     one_seen c.args.self_delimited c.args.«data».now (record { byte = λ i. (c.shared_slice_known-1.given i).fits }) c.own_at-s.result
-      (c.own_at-s.ensures ∙ ap (λ b. short_at b c.args.«data».now) (sym c.if-self_delimited.true)) _ _ c.in-One.is
+    (c.own_at-s.ensures ∙ ap (λ b. short_at b c.args.«data».now) (sym c.if-self_delimited.true)) _ _ c.in-One.is
 
 two : (c : In-Two)
     → Seen c.args.self_delimited c.args.«data».now (c.in-Two.size ∷ c.in-Two.last ∷ []) c.in-Two.first
 two c =
     two_seen c.args.self_delimited c.args.«data».now (record { byte = λ i. (c.shared_slice_known-1.given i).fits }) c.own_at-s.result
-      (c.own_at-s.ensures ∙ ap (λ b. short_at b c.args.«data».now) (sym c.if-self_delimited.true)) _ _ _ c.in-Two.is
+    (c.own_at-s.ensures ∙ ap (λ b. short_at b c.args.«data».now) (sym c.if-self_delimited.true)) _ _ _ c.in-Two.is
 
 -- a packet that breaks a rule
 none : (c : In-Broken)
     → read c.args.self_delimited c.args.«data».now ≡ refused c.in-Broken.rule c.in-Broken.place
 none c =
     none_read c.args.self_delimited c.args.«data».now (record { byte = λ i. (c.shared_slice_known-1.given i).fits }) c.own_at-s.result
-      (c.own_at-s.ensures ∙ ap (λ b. short_at b c.args.«data».now) (sym c.if-self_delimited.true)) _ _ c.in-Broken.is
+    (c.own_at-s.ensures ∙ ap (λ b. short_at b c.args.«data».now) (sym c.if-self_delimited.true)) _ _ c.in-Broken.is
 
 pub returns-then-data-gt-MOST_PACKET : goal.returns-then-data-gt-MOST_PACKET
 returns-then-data-gt-MOST_PACKET c =
@@ -49,7 +47,7 @@ overflow_add-result c =
 pub returns-in-One : goal.returns-in-One
 returns-in-One c =
     one_record c.args.self_delimited c.args.«data».now c.if-data-gt-MOST_PACKET.false _ _ (one (goal.at.returns-in-One c).In-One).taken
-      (one (goal.at.returns-in-One c).In-One).means c.report_of.ensures
+    (one (goal.at.returns-in-One c).In-One).means c.report_of.ensures
     (one_ends _ _ (one (goal.at.returns-in-One c).In-One))
 
 pub bounds-data-0-in-Two : goal.bounds-data-0-in-Two
@@ -70,7 +68,7 @@ overflow_add-result-in-Two-2 c =
 pub returns-in-Two : goal.returns-in-Two
 returns-in-Two c =
     two_record c.args.self_delimited c.args.«data».now c.if-data-gt-MOST_PACKET.false _ _ _ (two (goal.at.returns-in-Two c).In-Two).taken
-      (two (goal.at.returns-in-Two c).In-Two).means c.report_of-in-Two.ensures
+    (two (goal.at.returns-in-Two c).In-Two).means c.report_of-in-Two.ensures
     (two_ends _ _ _ (two (goal.at.returns-in-Two c).In-Two))
 
 pub rule_refusal-requires : goal.rule_refusal-requires
@@ -81,12 +79,15 @@ pub returns-in-Broken : goal.returns-in-Broken
 returns-in-Broken c =
     c.no_packet-in-Broken.ensures
     ∙ broken_record c.args.self_delimited c.args.«data».now c.if-data-gt-MOST_PACKET.false _ _ (none (goal.at.returns-in-Broken c).In-Broken)
-      c.rule_refusal.ensures
+    c.rule_refusal.ensures
 
 pub whole_packet-requires : goal.whole_packet-requires
 whole_packet-requires c =
-    omega (arith, read_few c.args.self_delimited c.args.«data».now c.read_into-p.result c.read_into-p.new.lengths
-      (record { byte = λ i. (c.type_inv.«data» i).fits }) c.read_into-p.ensures)
+    omega (
+      arith,
+      read_few c.args.self_delimited c.args.«data».now c.read_into-p.result c.read_into-p.new.lengths
+          (record { byte = λ i. (c.type_inv.«data» i).fits }) c.read_into-p.ensures,
+    )
 
 pub returns-in_default : goal.returns-in_default
 returns-in_default c =
@@ -96,4 +97,4 @@ returns-in_default c =
 pub returns : goal.returns
 returns c =
     c.no_packet-2.ensures ∙ record_unread c.args.self_delimited c.args.«data».now c.read_into-p.result c.read_into-p.new.lengths
-      c.read_into-p.ensures c.in-Refused.is
+    c.read_into-p.ensures c.in-Refused.is

@@ -1,6 +1,5 @@
 -- `aveluafi::reading::aveluafi_parse_size` meets its contract: it is the core's answer, as a record.
 use mathlib.Core.Path.{◌∙◌, ap}
-use borrow.Author.Rules.{rules}
 use Rattle.aveluafi.specs.Records.{size_record}
 use Rattle.aveluafi.proofs.Records.{size_few}
 use Rattle.aveluafi.proofs.reading.aveluafi_parse_size.Goals as goal

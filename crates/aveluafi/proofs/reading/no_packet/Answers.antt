@@ -1,5 +1,4 @@
 -- `aveluafi::reading::no_packet` meets its contract: the refusal's report, and zeros.
-use borrow.Author.Rules.{rules}
 use Rattle.aveluafi.proofs.Records.{none_reported}
 use Rattle.aveluafi.proofs.reading.no_packet.Goals as goal
 

@@ -1,6 +1,5 @@
 -- `aveluafi::reading::size_record` meets its contract: the verdict becomes its report.
 use native.Mathlib.Omega.{arith}
-use borrow.Author.Rules.{rules}
 use Rattle.aveluafi.proofs.Records.{size_reported}
 use Rattle.aveluafi.proofs.reading.size_record.Goals as goal
 

@@ -1,5 +1,4 @@
 -- `aveluafi::reading::whole_packet` meets its contract: the count is a report.
-use borrow.Author.Rules.{rules}
 use Rattle.aveluafi.proofs.Records.{whole_reported}
 use Rattle.aveluafi.proofs.reading.whole_packet.Goals as goal
 

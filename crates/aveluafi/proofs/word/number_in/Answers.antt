@@ -1,7 +1,6 @@
 -- `aveluafi::word::number_in` meets its contract: below 2^31 the number itself, from there on 2^32 less.
 use Prim.Native.Nat.{◌%◌}
 use native.Mathlib.Omega.{arith}
-use borrow.Author.Rules.{rules}
 use Rattle.aveluafi.proofs.Words.{signed_low, high_fits, high_cast, signed_high}
 use Rattle.aveluafi.proofs.word.number_in.Goals as goal
 

@@ -3,7 +3,6 @@ use Prim.Native.Nat.{◌%◌}
 use native.Mathlib.Omega.{arith}
 use mir.Syntax.{w32}
 use mir.ValLaws.{to_z-of_z}
-use borrow.Author.Rules.{rules}
 use Rattle.aveluafi.specs.Words.{signed}
 use Rattle.aveluafi.proofs.Words.{signed-fits}
 use Rattle.aveluafi.proofs.word.report_in.Goals as goal

@@ -1,5 +1,4 @@
 -- `aveluafi::word::verdict_word` meets its contract: a packet added has the number 0, and a refusal's word is handed on.
-use borrow.Author.Rules.{rules}
 use Rattle.aveluafi.proofs.word.verdict_word.Goals as goal
 
 pub returns-in_default : goal.returns-in_default
