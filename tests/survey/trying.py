@@ -1,7 +1,7 @@
 """What tests/survey/run and tests/compact/run share: captures that are hard to read in parts, the programs to try, and a small tree with the launcher in it.
 
-The launcher is tried over a tree of its own, with a stand-in for rt that puts the programs there: a build takes a moment, and nothing of the tree that is
-tested is touched. Where the variable HOOK_NAME is set, the program NAME is that shell script in its place; it finds the program itself at $REAL.
+The launcher is tried over a tree of its own, with a stand-in for rt that puts the programs into crates/NAME/out: a build takes a moment, and nothing of the
+tree that is tested is touched. Where the variable HOOK_NAME is set, the program NAME is that shell script in its place; it finds the program itself at $REAL.
 """
 import os, platform, random, shutil, subprocess, sys, tempfile
 from pathlib import Path
@@ -79,7 +79,7 @@ def programs(asked, names, folder):
 
 
 STAND_IN = """#!/bin/sh
-mkdir -p target/bin && cp "$(dirname "$0")/$2" "target/bin/$2"
+name=$(basename "$PWD") && mkdir -p out && cp "$(dirname "$0")/$name" "out/$name"
 """
 PROGRAM = """#!/bin/sh
 REAL={real}
