@@ -11,7 +11,7 @@ use lib.ListN.{length, get_or, drop}
 use borrow.Author.Tests.{eq-eqb, ne_eqb}
 use Rattle.capture.specs.Finding.{packet_length}
 use Rattle.capture.proofs.Laws.{length_first, length_second, length_cut}
-use Rattle.capture.proofs.Seeking.{stands, length_none, goes_on}
+use Rattle.capture.proofs.Seeking.{stands, length_none, goes_on_lem}
 
 -- the calls under `record_at` at a place: none where a record stands; else `seek_mark`, and under that `record_at` where one stands
 abbrev pub under_record_at : List ℕ → ℕ → ℕ
@@ -36,4 +36,4 @@ asked_stands s at high low a b h l f fits long =
     one_stands s at (packet_length (drop at s)) refl (stands s at a b (omega (arith, h, l, fits, long)) (λ z. f (omega (arith, h, l, z))))
 
 -- what the goals of `seek_mark` need
-pub ruleset seeking = (length_first, length_second, length_cut, length_none, goes_on, asked_stands)
+pub ruleset seeking = (length_first, length_second, length_cut, length_none, goes_on_lem, asked_stands)

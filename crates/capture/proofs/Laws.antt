@@ -42,7 +42,15 @@ module _ (s : List ℕ) (at : ℕ) where
       → packet_length (drop at s) ≡ length_at s at
   unfolding packet_length
   length_whole a b h =
-      simp (get_or-drop, add-zero, length-drop, eq-eqb (get_or s at 0) 0x4B a, eq-eqb (get_or s (at + 1) 0) 0x9D b, le-leb (5 + length_at s at) (length s - at) h)
+      simp (
+        get_or-drop,
+        add-zero,
+        length-drop,
+        eq-eqb (get_or s at 0) 0x4B a,
+        eq-eqb (get_or s (at + 1) 0) 0x9D b,
+        le-leb (5 + length_at s at)
+            (length s - at) h,
+      )
 
 -- where a record stands, its three tests hold, and its length is the one that is written
 tests_hold : (b₁ b₂ b₃ : Bool) (n : ℕ) → (cond (b₁ && (b₂ && b₃)) n 0 ≡ 0 → ⊥)

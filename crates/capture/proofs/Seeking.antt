@@ -2,7 +2,7 @@
 --     place_here, place_later     a record stands at a place, or none does
 --     length_none, stands     a length of 0 is written there, or one that fits
 --     place_end     fewer bytes are left than a head has
---     goes_on     a place at which none stands is passed over
+--     goes_on_lem     a place at which none stands is passed over
 --     Found     the first place from a start on at which a record stands, or the end, and the bytes of its packet
 -- Assumes nothing.
 use mathlib.Core.Path.{◌≡◌, refl, sym, ap, ◌∙◌}
@@ -58,9 +58,9 @@ place_end s at inside h =
     omega (arith, record_place s at, e, before-short (drop at s) (omega (arith, e)))
 
 -- ---- from a place on at which none stands
-pub goes_on : (s : List ℕ) (at place : ℕ) → place < length s → record_from s at ≡ record_from s place → packet_length (drop place s) ≡ 0
+pub goes_on_lem : (s : List ℕ) (at place : ℕ) → place < length s → record_from s at ≡ record_from s place → packet_length (drop place s) ≡ 0
     → record_from s at ≡ record_from s (place + 1)
-goes_on s at place inside e none = e ∙ record_later s place (packet_length (drop place s)) refl none inside
+goes_on_lem s at place inside e none = e ∙ record_later s place (packet_length (drop place s)) refl none inside
 
 -- ---- what is read at the place that is found
 pub record Found (s : List ℕ) (start place n : ℕ) : Type 0 where

@@ -5,7 +5,8 @@
 --     fits-.., front-..                    the tests of a head, and what it says alone
 --     known_checked, Look, look            what is known by the head, and what is left to look at
 -- Assumes nothing.
-use Rattle.std.proofs.Common.{◌≡◌, ℕ, ◌*◌, ◌%◌, ◌<◌, ◌≤◌, Bool, true, false, eqb, leb, List, length, take, sym, ◌∙◌, arith, length-take, eq-eqb, ne_eqb, eqb-true, le-leb, leb-true}
+use Rattle.std.proofs.Common.{◌≡◌, ℕ, ◌*◌, ◌%◌, ◌<◌, ◌≤◌, Bool, true, false, eqb, leb, List, length, take, sym, ◌∙◌, arith, length-take, eq-eqb, ne_eqb}
+use Rattle.std.proofs.Common.{eqb-true, le-leb, leb-true}
 use borrow.Author.Tests.{lt-leb, eqb-false}
 use Rattle.laws.proofs.Never.{never, by_test}
 use Rattle.laws.proofs.Every.{both_left}

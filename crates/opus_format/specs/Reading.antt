@@ -2,7 +2,8 @@
 -- the place of the first byte of the field concerned (document 02, M-100).
 -- proofs/Sound.antt and proofs/Complete.antt show that it accepts exactly what `Spells` of Format.antt says, proofs/Broken.antt that the rule
 -- named fails at that place.
-use Rattle.std.specs.Prelude.{ℕ, zero, suc, ◌+◌, ◌*◌, ◌-◌, ◌/◌, ◌%◌, List, [], ◌∷◌, ◌++◌, Bool, true, false, cond, ◌&&◌, ltb, leb, eqb, length, take, drop, replicate}
+use Rattle.std.specs.Prelude.{ℕ, zero, suc, ◌+◌, ◌*◌, ◌-◌, ◌/◌, ◌%◌, List, [], ◌∷◌, ◌++◌, Bool, true, false, cond, ◌&&◌, ltb, leb, eqb, length, take, drop}
+use Rattle.std.specs.Prelude.{replicate}
 use Rattle.opus_defines.specs.declared.Rule.{Rule}
 use Rattle.opus_defines.specs.declared.Rule.TheVariants.{R1, R2, R3, R4, R5, R6, R7, R8}
 use Rattle.opus_size.specs.Size.{most_bytes, Field, no_field, field, read_field}

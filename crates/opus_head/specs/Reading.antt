@@ -1,5 +1,6 @@
 -- What the reader and the writer of the identification header answer (document 02, M-111).
-use Rattle.std.specs.Prelude.{ℕ, zero, suc, ◌+◌, ◌-◌, List, [], ◌∷◌, ◌++◌, Bool, true, false, cond, ◌&&◌, ◌||◌, not, eqb, ltb, leb, ℤ, pos, negsuc, length, take, drop, get_or, replicate}
+use Rattle.std.specs.Prelude.{ℕ, zero, suc, ◌+◌, ◌-◌, List, [], ◌∷◌, ◌++◌, Bool, true, false, cond, ◌&&◌, ◌||◌, not, eqb, ltb, leb, ℤ, pos, negsuc, length}
+use Rattle.std.specs.Prelude.{take, drop, get_or, replicate}
 use Rattle.opus_defines.specs.Outcome.{Effect, refusal, into_room, Outcome, leaves}
 use Rattle.opus_defines.specs.declared.Refusal.{Refusal}
 use Rattle.opus_defines.specs.declared.Refusal.TheVariants.{BadHeader, UnknownVersion, BadField}

@@ -4,7 +4,8 @@
 --     numbered_grown     the next number, so many times, behind sound ones is sound
 --     after_grown        and the number behind them is one more
 -- Assumes nothing.
-use Rattle.std.proofs.Common.{◌≡◌, ℕ, zero, suc, ◌+◌, ◌-◌, ◌≤◌, true, eqb, List, [], ◌∷◌, ◌++◌, length, get_or, take, replicate, sym, refl, ◌∙◌, zero-add, arith, length-take-le, get_or-take, eq-eqb, ne_eqb, eqb-true}
+use Rattle.std.proofs.Common.{◌≡◌, ℕ, zero, suc, ◌+◌, ◌-◌, ◌≤◌, true, eqb, List, [], ◌∷◌, ◌++◌, length, get_or, take, replicate, sym, refl, ◌∙◌, zero-add}
+use Rattle.std.proofs.Common.{arith, length-take-le, get_or-take, eq-eqb, ne_eqb, eqb-true}
 use lib.ListN.{length-replicate, get_or-replicate}
 use lib.Seq.{sets}
 use Rattle.laws.proofs.Never.{by_test}

@@ -4,7 +4,8 @@
 --     Held; sums_four, fours_more, twos_more, ones_more     lengths that are there; with four, two or one more
 --     told_quick, told_wrong, told_well                     what is told in the end
 -- Assumes nothing.
-use Rattle.std.proofs.Common.{◌≡◌, ℕ, zero, suc, ◌+◌, ◌-◌, ◌*◌, ◌/◌, ◌%◌, ◌^◌, ◌<◌, ◌≤◌, true, false, not, eqb, leb, List, [], ◌∷◌, length, get_or, take, replicate, sym, refl, ◌∙◌, mod-eq_of_lt, add-one, arith, length-take, eq-eqb, eqb-true, le-leb, leb-true}
+use Rattle.std.proofs.Common.{◌≡◌, ℕ, zero, suc, ◌+◌, ◌-◌, ◌*◌, ◌/◌, ◌%◌, ◌^◌, ◌<◌, ◌≤◌, true, false, not, eqb, leb, List, [], ◌∷◌, length, get_or, take}
+use Rattle.std.proofs.Common.{replicate, sym, refl, ◌∙◌, mod-eq_of_lt, add-one, arith, length-take, eq-eqb, eqb-true, le-leb, leb-true}
 use lib.Bits.{bit_and, and_block, and_high}
 use borrow.Author.Tests.{lt-leb, eqb-false, not-false}
 use Rattle.laws.proofs.Never.{by_test}

@@ -5,7 +5,9 @@
 --     after_zero, after_more, last_small      the number of the next packet
 --     numbers_none, numbers_one, ..           numbers stored, as the code does
 -- Assumes nothing.
-use Rattle.std.proofs.Common.{◌≡◌, ℕ, zero, suc, ◌+◌, ◌-◌, ◌*◌, ◌%◌, ◌<◌, ◌≤◌, max, Bool, true, false, ◌&&◌, ◌||◌, eqb, leb, List, [], ◌∷◌, length, get_or, take, set, replicate, sym, refl, ap, ◌∙◌, add-one, arith, length-set, take_all, eq-eqb, ne_eqb, eqb-true, le-leb, leb-false, leb-true}
+use Rattle.std.proofs.Common.{◌≡◌, ℕ, zero, suc, ◌+◌, ◌-◌, ◌*◌, ◌%◌, ◌<◌, ◌≤◌, max, Bool, true, false, ◌&&◌, ◌||◌, eqb, leb, List, [], ◌∷◌, length, get_or}
+use Rattle.std.proofs.Common.{take, set, replicate, sym, refl, ap, ◌∙◌, add-one, arith, length-set, take_all, eq-eqb, ne_eqb, eqb-true, le-leb, leb-false}
+use Rattle.std.proofs.Common.{leb-true}
 use native.Mathlib.Nat.{mod-add-mod}
 use mathlib.Core.Bool.{and-true, and_assoc}
 use lib.Bits.{bit_or, or_lt, or_comm, or_add_and, and_le_r}

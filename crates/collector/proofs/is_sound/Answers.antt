@@ -7,4 +7,5 @@ use Rattle.collector.proofs.is_sound.Goals as goal
 
 pub returns : goal.returns
 returns c =
-    checked-sound (collector_of c.head_of.result c.args.rp.len c.args.rp.packet) c.check-c.result c.check-c.ensures ∙ ap sound (headed c.args.rp c.head_of.result c.head_of.ensures)
+    checked-sound (collector_of c.head_of.result c.args.rp.len c.args.rp.packet) c.check-c.result c.check-c.ensures ∙ ap sound
+    (headed c.args.rp c.head_of.result c.head_of.ensures)

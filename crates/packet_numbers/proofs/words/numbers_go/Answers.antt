@@ -28,7 +28,8 @@ returns-then-steps_wrong-2 c =
 
 pub returns : goal.returns
 returns c =
-    let here = go_fewer c.args.ks.now (c.args.n - 10 + 1) (c.loop-i.i + 1) (omega arith) (omega (arith, c.loop-i-test.false)) (omega (arith, c.loop-i.invariant.0, c.requires))
+    let here = go_fewer c.args.ks.now (c.args.n - 10 + 1) (c.loop-i.i + 1) (omega arith) (omega (arith, c.loop-i-test.false))
+    (omega (arith, c.loop-i.invariant.0, c.requires))
     c.loop-i.invariant.1 in
     last_goes c.args.ks.now c.args.n c.wrapping_sub_u8.result c.requires.0 c.requires.1 c.requires.2 (c.steps_wrong-2.ensures c.if-steps_wrong-2.false here)
     c.wrapping_sub_u8.ensures.value

@@ -108,7 +108,8 @@ pub overflow_add-all-2 : goal.overflow_add-all-2
 overflow_add-all-2 c =
     let q = goal.at.overflow_add-all-2 c in
     record {
-      fits = all_fit (ones q.Joined-m-eq1-3 (twos q.Joined-m-eq1-2 (fours q.Joined-m-eq1))) (omega (arith, c.requires)) c.wide-last.result c.wide-last.ensures.1;
+      fits = all_fit (ones q.Joined-m-eq1-3 (twos q.Joined-m-eq1-2 (fours q.Joined-m-eq1))) (omega (arith, c.requires)) c.wide-last.result
+          c.wide-last.ensures.1;
     }
 
 pub returns : goal.returns
