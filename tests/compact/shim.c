@@ -2,14 +2,16 @@
  *
  *   SHIM_PROGRAM=compact SHIM_CALL=read SHIM_FILE=0 SHIM_HOW=short|EINTR|EIO|ENOSPC SHIM_AFTER=N SHIM_MARK=FILE
  *
- * The first N calls on that descriptor are as they are. Behind them a call is cut to a few bytes of what it asks for (short), every second one is interrupted
- * (EINTR), or all fail. FILE is made when that was done once, so that a test can tell. */
+ * The first N calls on what that descriptor is open for are as they are: on the descriptor itself, or on another one for the same file, as a program that
+ * opens /dev/fd/3 has it. Behind them a call is cut to a few bytes of what it asks for (short), every second one is interrupted (EINTR), or all fail. FILE is
+ * made when that was done once, so that a test can tell. */
 #include <dlfcn.h>
 #include <errno.h>
 #include <fcntl.h>
 #include <stdbool.h>
 #include <stdlib.h>
 #include <string.h>
+#include <sys/stat.h>
 #include <sys/types.h>
 #include <unistd.h>
 
@@ -20,10 +22,16 @@ static const char *told(const char *name) {
     return word ? word : "";
 }
 
+/* Whether both descriptors are open for the same file. */
+static bool alike(int one, int other) {
+    struct stat a, b;
+    return one == other || (fstat(one, &a) == 0 && fstat(other, &b) == 0 && a.st_dev == b.st_dev && a.st_ino == b.st_ino);
+}
+
 /* What to do with a call: 0 or an error number; `n` may be cut. */
 static int meddle(const char *name, int file, size_t *n) {
     static unsigned long calls, state = 1;
-    if (strcmp(told("SHIM_PROGRAM"), program_invocation_short_name) != 0 || strcmp(told("SHIM_CALL"), name) != 0 || atoi(told("SHIM_FILE")) != file)
+    if (strcmp(told("SHIM_PROGRAM"), program_invocation_short_name) != 0 || strcmp(told("SHIM_CALL"), name) != 0 || !alike(file, atoi(told("SHIM_FILE"))))
         return 0;
     if (calls++ < strtoul(told("SHIM_AFTER"), NULL, 10))
         return 0;
