@@ -12,7 +12,7 @@ use borrow.Author.Tests.{lt-ltb, le-ltb}
 use Rattle.laws.proofs.Never.{never}
 use Rattle.opus_defines.specs.Numbers.{count_of}
 use Rattle.opus_defines.specs.declared.Count.TheVariants.{Is, Negative}
-use Rattle.opus_defines.proofs.Counts.{is_natural}
+use Rattle.opus_defines.proofs.Counts.{counted, is_natural}
 use Rattle.multistream.specs.Streams.{streams_of}
 
 pub streams_none : (x : ℤ) → count_of x ≡ Negative → 0 ≡ streams_of x
@@ -27,3 +27,6 @@ streams_some x n e h = rw (is_natural x n e, le-ltb 255 n h)
 
 pub streams_told : (x : ℤ) → SFits w32 x → {k : ℕ} → k ≡ streams_of (to_z w32 (of_z w32 x)) → streams_of x ≡ k
 streams_told x f e = sym (rw (to_z-of_z w32 x f) at e)
+
+-- what `streams_of` is proved by
+pub ruleset by_count = (streams_none, streams_many, streams_some, counted)

@@ -108,6 +108,7 @@ fn pad_streams(data: &mut [u8], len: usize, new_len: usize, streams: usize) -> A
 }
 
 // 1 to 255 streams; 0 for any other number.
+#[tactic(auto, using(crate::proofs::Counted::by_count))]
 pub fn streams_of(nb_streams: i32) -> usize
     ensures { result ≡ streams_of nb_streams }
 {

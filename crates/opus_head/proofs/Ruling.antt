@@ -159,27 +159,27 @@ ruled_lawful h v t =
     record {
       version = v;
       channels = fits_some f n s.channels;
-      mono_or-stereo = fits-plain f n s.channels;
+      mono_or_stereo = fits-plain f n s.channels;
       vorbis = fits_vorbis f n s.channels;
       streams = some;
       coupled = leb-true h.coupled h.streams s.coupled;
       together = leb-true (h.streams + h.coupled) 255 s.together;
       entry = entries_hold n (h.streams + h.coupled) h.mapping (omega arith) s.entries;
       unused = entries_unused n (h.streams + h.coupled) h.mapping s.entries;
-      one_stream_lem = λ e.
+      single_stream = λ e.
           let m = means h (rw (eq-eqb f 0 e) at s.plain) in
           (m.one, m.two, at_own_place h m (fits-plain f n s.channels e));
     }
 
 lawful_means : (h : OpusHead) → Lawful h → h.family ≡ 0 → Means h
 lawful_means h l e =
-    let o = l.one_stream_lem e in
+    let o = l.single_stream e in
     record {
       one = o.0;
       two = o.1;
       first = o.2 0 (omega (arith, l.channels));
       second = by_test (ltb 1 h.channels)
-          (λ t. o.2 1 (ltb-true 1 h.channels t) ∙ omega (arith, ltb-true 1 h.channels t, l.mono_or-stereo e, o.1))
+          (λ t. o.2 1 (ltb-true 1 h.channels t) ∙ omega (arith, ltb-true 1 h.channels t, l.mono_or_stereo e, o.1))
           (λ t. l.unused 1 (ltb-false 1 h.channels t) ∙ omega (arith, ltb-false 1 h.channels t, l.channels, o.1));
     }
 
@@ -190,7 +190,7 @@ lawful_ruled h l =
     let plain : plain_test h ≡ true =
     by_test (eqb h.family 0) (λ t. rw t (means_test h (lawful_means h l (eqb-true h.family 0 t)))) (λ t. rw t) in
     rw (
-      channels_test_lem h.family h.channels l.channels l.mono_or-stereo l.vorbis,
+      channels_test_lem h.family h.channels l.channels l.mono_or_stereo l.vorbis,
       le-leb 1 h.streams l.streams,
       le-leb h.coupled h.streams l.coupled,
       le-leb sum 255 l.together,

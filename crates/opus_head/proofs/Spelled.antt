@@ -179,9 +179,9 @@ module _ (h : OpusHead) (range : InRange h) where
 
     back_plain : h.family ≡ 0 → head_of whole ≡ h
     back_plain e =
-        let o = lawful.one_stream_lem e in
+        let o = lawful.single_stream e in
         let own =
-        own_places_lem h.channels h.mapping lawful.channels (lawful.mono_or-stereo e) (omega (arith, range.entry_count)) o.2 in
+        own_places_lem h.channels h.mapping lawful.channels (lawful.mono_or_stereo e) (omega (arith, range.entry_count)) o.2 in
         let mapping : entries (take h.channels (0 ∷ 1 ∷ [])) ≡ h.mapping =
         ap entries own ∙ entries_whole h.mapping h.channels range.entry_count (omega (arith, range.channels)) lawful.unused in
         let less : h.channels - 1 ≡ h.coupled = omega (arith, o.1) in

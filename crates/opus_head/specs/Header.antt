@@ -30,7 +30,7 @@ pub record Lawful (h : OpusHead) : Type 0 where
   -- the upper four bits are 0
   pub version : h.version ≤ 15
   pub channels : 1 ≤ h.channels
-  pub mono_or-stereo : h.family ≡ 0 → h.channels ≤ 2
+  pub mono_or_stereo : h.family ≡ 0 → h.channels ≤ 2
   pub vorbis : h.family ≡ 1 → h.channels ≤ 8
   pub streams : 1 ≤ h.streams
   pub coupled : h.coupled ≤ h.streams
@@ -39,4 +39,4 @@ pub record Lawful (h : OpusHead) : Type 0 where
   pub entry : (i : ℕ) → i < h.channels → (get_or h.mapping i 0 ≡ 255) ⊎ (get_or h.mapping i 0 < h.streams + h.coupled)
   pub unused : (i : ℕ) → h.channels ≤ i → get_or h.mapping i 0 ≡ 0
   -- family 0 means one stream, coupled if there are two channels, and each channel at its own place
-  pub one_stream_lem : h.family ≡ 0 → (h.streams ≡ 1) × (h.coupled + 1 ≡ h.channels) × ((i : ℕ) → i < h.channels → get_or h.mapping i 0 ≡ i)
+  pub single_stream : h.family ≡ 0 → (h.streams ≡ 1) × (h.coupled + 1 ≡ h.channels) × ((i : ℕ) → i < h.channels → get_or h.mapping i 0 ≡ i)

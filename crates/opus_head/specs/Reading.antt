@@ -68,7 +68,7 @@ head_with s streams coupled mapping =
       mapping = mapping;
     }
 
--- of family 0, which means what Header's `one_stream_lem` says, and of the others
+-- of family 0, which means what Header's `single_stream` says, and of the others
 abbrev pub plain_head : List ℕ → OpusHead
 plain_head s = head_with s 1 (get_or s 9 0 - 1) (entries (take (get_or s 9 0) (0 ∷ 1 ∷ [])))
 
