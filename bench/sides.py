@@ -8,7 +8,6 @@ top = here.parent
 work = top / "target" / "bench"
 native = platform.machine() == "x86_64"
 OPUS = "opus-1.3.1"
-FOR = "-march=x86-64-v2"              # what the kit compiles the archive and the programs for
 PASSES = 4
 
 
@@ -151,7 +150,7 @@ def header_folders(cc):
 def compile_plain(clang, cc, source, made):
     """C that stands beside ours, by the kit's clang."""
     words = [w for h in header_folders(cc) for w in ("-isystem", h)] + ["-I", top / "include", "-c", source, "-o", made]
-    sh(clang, "--target=x86_64-linux-gnu", FOR, "-std=c11", "-O3", "-nostdinc", *words)
+    sh(clang, "--target=x86_64-linux-gnu", "-std=c11", "-O3", "-nostdinc", *words)
     return made
 
 
@@ -160,8 +159,8 @@ def build_libopus(clang, cc, folder):
     if not (folder / "package_version").exists() or "1.3.1" not in (folder / "package_version").read_text():
         stop(f"{folder} has not the source of libopus 1.3.1")
     compilers = {
-        "the kit's clang": [clang, "--target=x86_64-linux-gnu", FOR, "-w", "-nostdinc"] + [w for h in header_folders(cc) for w in ("-isystem", h)],
-        "gcc": [cc, FOR, "-w"],
+        "the kit's clang": [clang, "--target=x86_64-linux-gnu", "-w", "-nostdinc"] + [w for h in header_folders(cc) for w in ("-isystem", h)],
+        "gcc": [cc, "-w"],
     }
     for by, front in compilers.items():
         made, failed = [], ""

@@ -9,7 +9,6 @@
  * different memory may run at the same time.
  *
  * What a caller must see to, since C cannot say it:
- *   - the processor is of x86-64-v2 (SSE4.2, POPCNT) or above: no call tests for it;
  *   - a pointer and a count name that many bytes, or cut orders, that can be read, and for a pointer without `const` written; a count of 0 may go with
  *     any pointer, NULL too, as an empty std::vector has it: no byte is touched; the pointer to a collector or to a header's fields is never NULL;
  *   - the memory of two arguments of one call does not overlap (data, store, collector and orders are four different places, data and dst two, head
