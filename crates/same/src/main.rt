@@ -19,6 +19,9 @@ const MOST: usize = 1152921504606846976;
 // The new capture: what descriptor 3 is open for, read from its front.
 const NEW_FILE: &str = "/dev/fd/3";
 
+// EBADF, the error of a descriptor that is not open.
+const BAD_DESCRIPTOR: i32 = 9;
+
 // The new capture where descriptor 3 is not open: every read of it fails.
 #[derive(Clone, Copy)]
 struct Absent;
@@ -130,9 +133,12 @@ fn compare<R: Read>(from: &mut Stdin, file: &mut R, buf: &mut [u8], new: &mut [u
     too_long();
 }
 
-// Standard input is open where a read of no bytes does not fail. Where it is closed nothing is opened, since a file that is would be read as standard input.
+// Standard input is closed where a read of no bytes fails for want of a descriptor. Then nothing is opened, since a file that is would be read in its place.
 fn is_open(from: &mut Stdin) -> bool {
-    from.read(&mut []).is_ok()
+    match from.read(&mut []) {
+        Ok(_) => true,
+        Err(e) => e.raw_os_error() != Some(BAD_DESCRIPTOR),
+    }
 }
 
 fn main(rt: HostRuntime) {
