@@ -1,7 +1,9 @@
 #!/usr/bin/env python3
-"""Brings the repository's own definitions and lemmas to the spelling of today's Rattle, once, right behind /opt/rattle/port/port.py.
+"""Brings the repository's own definitions and lemmas to the spelling of today's Rattle, once, right behind the kit's port.py.
 
-usage: tools/respell.py [--dry]        at the top of the repository
+usage: tools/respell.py [--dry]        at the top of the repository, before the port: docs/PORT.md tells how it was made again
+
+A tree that has docs/port-names.txt is ported already, and is refused with status 2 and left as it is.
 
 Functions, lemmas and fields get snake case: `mostBytes` is `most_bytes`. A dash stays only where it joins two names of definitions, as in `get_or-behind`;
 a plain word is joined by `_`. Types, modules, names of src/, strings, generated names and names of the library keep their spelling. Where a lemma would
@@ -9,10 +11,12 @@ get the name of a definition that its file speaks of, the lemma ends in `_lem`.
 """
 import collections
 import glob
+import os
 import re
 import sys
 
 DRY = "--dry" in sys.argv
+PORTED = "docs/port-names.txt"
 WORD = re.compile(r"(?<![\w'-])[^\W\d][\w']*(?:-[\w'*]+)*(?![\w'])")
 HEAD = re.compile(r"^[ ]*(?:unfoldable |abbrev )*(?:pub )?(?:data |record )?([^\s:(){}\[\]λ,]+)((?: [^:\n]*)?) : ", re.M)
 # functions of the library that lemmas are named after
@@ -36,6 +40,22 @@ def files():
         yield from sorted(glob.glob(f"crates/*/{kind}/**/*.antt", recursive=True))
 
 
+def refuse(why):
+    print(f"respell: {why}", file=sys.stderr)
+    sys.exit(2)
+
+
+def put(path, text):
+    """The new text is whole on disk before it takes the old one's name."""
+    beside = path + ".respelled"
+    with open(beside, "x", encoding="utf-8") as f:
+        f.write(text)
+        f.flush()
+        os.fsync(f.fileno())
+    os.chmod(beside, os.stat(path).st_mode & 0o7777)
+    os.replace(beside, path)
+
+
 def by_hand(path):
     """A proof that walks one function: its names follow what Rattle makes."""
     return path.endswith("Proof.antt") or "/Proof/" in path
@@ -46,6 +66,16 @@ def snake(name):
 
 
 def main():
+    for word in sys.argv[1:]:
+        if word != "--dry":
+            if word in ("-h", "--help"):
+                print(__doc__.strip())
+                sys.exit(0)
+            refuse(f"{word}: not an option; see --help")
+    if os.path.exists(PORTED):
+        refuse(f"{PORTED} is here: this tree is ported already. Nothing was changed.")
+    if not os.path.isdir("crates"):
+        refuse("no crates/ here: run it at the top of the repository. Nothing was changed.")
     text = {p: open(p, encoding="utf-8").read() for p in files()}
     defined = collections.defaultdict(set)
     imported = set()
@@ -101,7 +131,8 @@ def main():
             w = m.group(0)
             if w not in new:
                 return w
-            if hand and "-" in w and t[m.start() - 1 : m.start()] == "." and not re.search(r"proofs\.[\w.+]*\.$|^use .*$", t[t.rfind("\n", 0, m.start()) + 1 : m.start()]):
+            before = t[t.rfind("\n", 0, m.start()) + 1 : m.start()]
+            if hand and "-" in w and before.endswith(".") and not re.search(r"proofs\.[\w.+]*\.$|^use .*$", before):
                 return w
             return new[w]
 
@@ -113,14 +144,14 @@ def main():
                 t = re.sub(rf"(?<![\w'.-]){old}(?![\w'-])", to, t)
         u = turn(t, p)
         if not DRY and u != open(p, encoding="utf-8").read():
-            open(p, "w", encoding="utf-8").write(u)
+            put(p, u)
     for p in sorted(glob.glob("crates/*/src/**/*.rt", recursive=True)):
         t = open(p, encoding="utf-8").read()
         # strings keep their text; so do words of the code, which has neither camel case nor dashes in a name
         pieces = re.split(r'(b?"(?:[^"\\]|\\.)*")', t)
         u = "".join(x if i % 2 else turn(x, p) for i, x in enumerate(pieces))
         if not DRY and u != t:
-            open(p, "w", encoding="utf-8").write(u)
+            put(p, u)
     print(f"{len(new)} names respelled")
 
 
