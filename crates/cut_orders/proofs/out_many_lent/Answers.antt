@@ -11,8 +11,17 @@ use Rattle.cut_orders.specs.Orders.{order_report, natural}
 use Rattle.cut_orders.proofs.Each.{past}
 use Rattle.cut_orders.proofs.Passes as P
 use Rattle.cut_orders.proofs.out_many_lent.Goals as goal
+use Rattle.cut_orders.proofs.out_many_lent.Goals.{In-loop-i, In-loop-k}
 
 -- ---- the first pass
+-- a turn: the orders that the pass goes through are counted in n
+measured : (c : In-loop-i) → P.Measures c.args.h c.args.len.now c.args.packet.now c.args.store.now c.args.orders.now c.args.«data».now c.loop-i.i
+measured c =
+    let n = P.counted_1 c.args.h c.args.len.now c.args.packet.now c.args.store.now c.args.orders.now c.args.«data».now c.begin_orders-m.ensures
+    c.turns_of-n.ensures in
+    P.measures c.args.h c.args.len.now c.args.packet.now c.args.store.now c.args.orders.now c.args.«data».now c.loop-i.i
+    (omega (arith, n, c.loop-i-test.true))
+
 pub loop-i-init : goal.loop-i-init
 loop-i-init c =
     record {
@@ -23,27 +32,18 @@ loop-i-init c =
 
 pub next_order-m-requires-clause-collector : goal.next_order-m-requires-clause-collector
 next_order-m-requires-clause-collector c =
-    let n = P.counted_1 c.args.h c.args.len.now c.args.packet.now c.args.store.now c.args.orders.now c.args.«data».now c.begin_orders-m.ensures
-    c.turns_of-n.ensures in
-    let t = P.measures c.args.h c.args.len.now c.args.packet.now c.args.store.now c.args.orders.now c.args.«data».now c.loop-i.i
-    (omega (arith, n, c.loop-i-test.true)) in
+    let t = measured (goal.at.next_order-m-requires-clause-collector c).In-loop-i in
     t.collector
 
 pub next_order-m-requires-clause-few : goal.next_order-m-requires-clause-few
 next_order-m-requires-clause-few c =
-    let n = P.counted_1 c.args.h c.args.len.now c.args.packet.now c.args.store.now c.args.orders.now c.args.«data».now c.begin_orders-m.ensures
-    c.turns_of-n.ensures in
-    let t = P.measures c.args.h c.args.len.now c.args.packet.now c.args.store.now c.args.orders.now c.args.«data».now c.loop-i.i
-    (omega (arith, n, c.loop-i-test.true)) in
+    let t = measured (goal.at.next_order-m-requires-clause-few c).In-loop-i in
     let most = subst (λ (r : OrderReport). natural r.number ≤ length c.args.«data».now) (sym c.loop-i.invariant.report) t.few.2 in
     (t.few.0, t.few.1, most)
 
 pub loop-i-preserved : goal.loop-i-preserved
 loop-i-preserved c =
-    let n = P.counted_1 c.args.h c.args.len.now c.args.packet.now c.args.store.now c.args.orders.now c.args.«data».now c.begin_orders-m.ensures
-    c.turns_of-n.ensures in
-    let t = P.measures c.args.h c.args.len.now c.args.packet.now c.args.store.now c.args.orders.now c.args.«data».now c.loop-i.i
-    (omega (arith, n, c.loop-i-test.true)) in
+    let t = measured (goal.at.loop-i-preserved c).In-loop-i in
     let b : to_z w32 (of_z w32 (get_or c.args.orders.now c.loop-i.i past).begin) ≡ (get_or c.args.orders.now c.loop-i.i past).begin = search rules in
     let e : to_z w32 (of_z w32 (get_or c.args.orders.now c.loop-i.i past).end) ≡ (get_or c.args.orders.now c.loop-i.i past).end = search rules in
     let so_far = c.loop-i.invariant.report in
@@ -54,6 +54,17 @@ loop-i-preserved c =
     record { within = omega (arith, c.loop-i-test.true); report = says ∙ rw (b, e) (ap order_report t.goes_on) }
 
 -- ---- the second pass
+-- a turn: the orders that the pass goes through are counted in `all`
+written : (c : In-loop-k) → P.Writes c.args.h c.args.len.now c.args.packet.now c.args.store.now c.args.orders.now c.args.«data».now c.loop-k.k
+written c =
+    let n = P.counted_1 c.args.h c.args.len.now c.args.packet.now c.args.store.now c.args.orders.now c.args.«data».now c.begin_orders-m.ensures
+    c.turns_of-n.ensures in
+    let same : c.loop-i.i ≡ c.turns_of-n.result = omega (arith, c.loop-i-test.false, c.loop-i.invariant.within) in
+    let all = P.counted_2 c.args.h c.args.len.now c.args.packet.now c.args.store.now c.args.orders.now c.args.«data».now n same c.loop-i.invariant.report
+    c.turns_of-all.ensures in
+    P.writes c.args.h c.args.len.now c.args.packet.now c.args.store.now c.args.orders.now c.args.«data».now c.loop-k.k
+    (omega (arith, all, c.loop-k-test.true))
+
 pub loop-k-init : goal.loop-k-init
 loop-k-init c =
     record {
@@ -65,48 +76,24 @@ loop-k-init c =
 
 pub put_order-l-requires-clause-collector : goal.put_order-l-requires-clause-collector
 put_order-l-requires-clause-collector c =
-    let n = P.counted_1 c.args.h c.args.len.now c.args.packet.now c.args.store.now c.args.orders.now c.args.«data».now c.begin_orders-m.ensures
-    c.turns_of-n.ensures in
-    let same : c.loop-i.i ≡ c.turns_of-n.result = omega (arith, c.loop-i-test.false, c.loop-i.invariant.within) in
-    let all = P.counted_2 c.args.h c.args.len.now c.args.packet.now c.args.store.now c.args.orders.now c.args.«data».now n same
-    c.loop-i.invariant.report c.turns_of-all.ensures in
-    let w = P.writes c.args.h c.args.len.now c.args.packet.now c.args.store.now c.args.orders.now c.args.«data».now c.loop-k.k
-    (omega (arith, all, c.loop-k-test.true)) in
+    let w = written (goal.at.put_order-l-requires-clause-collector c).In-loop-k in
     w.collector
 
 pub put_order-l-requires-clause-buffers : goal.put_order-l-requires-clause-buffers
 put_order-l-requires-clause-buffers c =
-    let n = P.counted_1 c.args.h c.args.len.now c.args.packet.now c.args.store.now c.args.orders.now c.args.«data».now c.begin_orders-m.ensures
-    c.turns_of-n.ensures in
-    let same : c.loop-i.i ≡ c.turns_of-n.result = omega (arith, c.loop-i-test.false, c.loop-i.invariant.within) in
-    let all = P.counted_2 c.args.h c.args.len.now c.args.packet.now c.args.store.now c.args.orders.now c.args.«data».now n same
-    c.loop-i.invariant.report c.turns_of-all.ensures in
-    let w = P.writes c.args.h c.args.len.now c.args.packet.now c.args.store.now c.args.orders.now c.args.«data».now c.loop-k.k
-    (omega (arith, all, c.loop-k-test.true)) in
+    let w = written (goal.at.put_order-l-requires-clause-buffers c).In-loop-k in
     rw (c.loop-k.invariant.bytes, c.loop-k.invariant.place) w.roomy
 
 pub put_order-l-requires-clause-taken : goal.put_order-l-requires-clause-taken
 put_order-l-requires-clause-taken c =
-    let n = P.counted_1 c.args.h c.args.len.now c.args.packet.now c.args.store.now c.args.orders.now c.args.«data».now c.begin_orders-m.ensures
-    c.turns_of-n.ensures in
-    let same : c.loop-i.i ≡ c.turns_of-n.result = omega (arith, c.loop-i-test.false, c.loop-i.invariant.within) in
-    let all = P.counted_2 c.args.h c.args.len.now c.args.packet.now c.args.store.now c.args.orders.now c.args.«data».now n same
-    c.loop-i.invariant.report c.turns_of-all.ensures in
-    let w = P.writes c.args.h c.args.len.now c.args.packet.now c.args.store.now c.args.orders.now c.args.«data».now c.loop-k.k
-    (omega (arith, all, c.loop-k-test.true)) in
+    let w = written (goal.at.put_order-l-requires-clause-taken c).In-loop-k in
     let b : to_z w32 (of_z w32 (get_or c.loop-k.orders c.loop-k.k past).begin) ≡ (get_or c.loop-k.orders c.loop-k.k past).begin = search rules in
     let e : to_z w32 (of_z w32 (get_or c.loop-k.orders c.loop-k.k past).end) ≡ (get_or c.loop-k.orders c.loop-k.k past).end = search rules in
     λ f. rw (b, e, c.loop-k.invariant.list, c.loop-k.invariant.bytes, c.loop-k.invariant.place) (w.taken f)
 
 pub overflow_add-at : goal.overflow_add-at
 overflow_add-at c =
-    let n = P.counted_1 c.args.h c.args.len.now c.args.packet.now c.args.store.now c.args.orders.now c.args.«data».now c.begin_orders-m.ensures
-    c.turns_of-n.ensures in
-    let same : c.loop-i.i ≡ c.turns_of-n.result = omega (arith, c.loop-i-test.false, c.loop-i.invariant.within) in
-    let all = P.counted_2 c.args.h c.args.len.now c.args.packet.now c.args.store.now c.args.orders.now c.args.«data».now n same
-    c.loop-i.invariant.report c.turns_of-all.ensures in
-    let w = P.writes c.args.h c.args.len.now c.args.packet.now c.args.store.now c.args.orders.now c.args.«data».now c.loop-k.k
-    (omega (arith, all, c.loop-k-test.true)) in
+    let w = written (goal.at.overflow_add-at c).In-loop-k in
     let b : to_z w32 (of_z w32 (get_or c.loop-k.orders c.loop-k.k past).begin) ≡ (get_or c.loop-k.orders c.loop-k.k past).begin = search rules in
     let e : to_z w32 (of_z w32 (get_or c.loop-k.orders c.loop-k.k past).end) ≡ (get_or c.loop-k.orders c.loop-k.k past).end = search rules in
     let r = rw (b, e, c.loop-k.invariant.list, c.loop-k.invariant.bytes, c.loop-k.invariant.place) at c.put_order-l.ensures.length in
@@ -114,13 +101,7 @@ overflow_add-at c =
 
 pub loop-k-preserved : goal.loop-k-preserved
 loop-k-preserved c =
-    let n = P.counted_1 c.args.h c.args.len.now c.args.packet.now c.args.store.now c.args.orders.now c.args.«data».now c.begin_orders-m.ensures
-    c.turns_of-n.ensures in
-    let same : c.loop-i.i ≡ c.turns_of-n.result = omega (arith, c.loop-i-test.false, c.loop-i.invariant.within) in
-    let all = P.counted_2 c.args.h c.args.len.now c.args.packet.now c.args.store.now c.args.orders.now c.args.«data».now n same
-    c.loop-i.invariant.report c.turns_of-all.ensures in
-    let w = P.writes c.args.h c.args.len.now c.args.packet.now c.args.store.now c.args.orders.now c.args.«data».now c.loop-k.k
-    (omega (arith, all, c.loop-k-test.true)) in
+    let w = written (goal.at.loop-k-preserved c).In-loop-k in
     let b : to_z w32 (of_z w32 (get_or c.loop-k.orders c.loop-k.k past).begin) ≡ (get_or c.loop-k.orders c.loop-k.k past).begin = search rules in
     let e : to_z w32 (of_z w32 (get_or c.loop-k.orders c.loop-k.k past).end) ≡ (get_or c.loop-k.orders c.loop-k.k past).end = search rules in
     let r = rw (b, e, c.loop-k.invariant.list, c.loop-k.invariant.bytes, c.loop-k.invariant.place) at c.put_order-l.ensures.length in
@@ -138,8 +119,8 @@ returns c =
     let n = P.counted_1 c.args.h c.args.len.now c.args.packet.now c.args.store.now c.args.orders.now c.args.«data».now c.begin_orders-m.ensures
     c.turns_of-n.ensures in
     let same : c.loop-i.i ≡ c.turns_of-n.result = omega (arith, c.loop-i-test.false, c.loop-i.invariant.within) in
-    let all = P.counted_2 c.args.h c.args.len.now c.args.packet.now c.args.store.now c.args.orders.now c.args.«data».now n same
-    c.loop-i.invariant.report c.turns_of-all.ensures in
+    let all = P.counted_2 c.args.h c.args.len.now c.args.packet.now c.args.store.now c.args.orders.now c.args.«data».now n same c.loop-i.invariant.report
+    c.turns_of-all.ensures in
     P.ended c.args.h c.args.len.now c.args.packet.now c.args.store.now c.args.orders.now c.args.«data».now (same ∙ n)
     (omega (arith, all, c.loop-k-test.false, c.loop-k.invariant.within)) c.loop-i.invariant.report c.loop-k.invariant.list
     c.loop-k.invariant.bytes
