@@ -7,6 +7,18 @@ use Rattle.show.proofs.Laid.{Laid, laid_ends, first_room, second_room, third_roo
 use Rattle.head_text.specs.Labels.{gain_label, gain_end}
 use Rattle.head_text.proofs.Texts.{passed, gain_parts}
 use Rattle.head_text.proofs.put_gain.Goals as goal
+use Rattle.head_text.proofs.put_gain.Goals.{After-put_text-next, After-put_number-next}
+
+-- the first text is laid, and the second behind it
+one : (c : After-put_text-next) → Laid c.args.out.now c.args.at gain_label c.put_text-next.new.out c.put_text-next.result
+unfolding gain_label gain_end
+one c = record { bytes = c.put_text-next.ensures.bytes; place = c.put_text-next.ensures.next }
+
+two : (c : After-put_number-next)
+    → Laid c.put_text-next.new.out c.put_text-next.result (integer (to_z w32 (of_z w32 (passed c.args.gain))))
+    c.put_number-next.new.out c.put_number-next.result
+unfolding gain_label gain_end
+two c = record { bytes = c.put_number-next.ensures.bytes; place = c.put_number-next.ensures.next }
 
 pub put_text-next-requires : goal.put_text-next-requires
 unfolding gain_label gain_end
@@ -18,34 +30,21 @@ pub put_number-next-requires : goal.put_number-next-requires
 unfolding gain_label gain_end
 put_number-next-requires c =
     let a = c.args in
-    let p = c.put_text-next in
-    let one : Laid a.out.now a.at gain_label p.new.out p.result =
-    record { bytes = p.ensures.bytes; place = p.ensures.next } in
-    second_room (gain_parts a.gain c.ranges.gain a.out.now a.at c.requires) one
+    second_room (gain_parts a.gain c.ranges.gain a.out.now a.at c.requires) (one (goal.at.put_number-next-requires c).After-put_text-next)
 
 pub put_text-requires : goal.put_text-requires
 unfolding gain_label gain_end
 put_text-requires c =
     let a = c.args in
-    let p = c.put_text-next in
-    let q = c.put_number-next in
-    let one : Laid a.out.now a.at gain_label p.new.out p.result =
-    record { bytes = p.ensures.bytes; place = p.ensures.next } in
-    let two : Laid p.new.out p.result (integer (to_z w32 (of_z w32 (passed a.gain)))) q.new.out q.result =
-    record { bytes = q.ensures.bytes; place = q.ensures.next } in
-    third_room (gain_parts a.gain c.ranges.gain a.out.now a.at c.requires) one two
+    let at = goal.at.put_text-requires c in
+    third_room (gain_parts a.gain c.ranges.gain a.out.now a.at c.requires) (one at.After-put_text-next) (two at.After-put_number-next)
 
 pub returns : goal.returns
 unfolding gain_label gain_end
 returns c =
     let a = c.args in
-    let p = c.put_text-next in
-    let q = c.put_number-next in
-    let one : Laid a.out.now a.at gain_label p.new.out p.result =
-    record { bytes = p.ensures.bytes; place = p.ensures.next } in
-    let two : Laid p.new.out p.result (integer (to_z w32 (of_z w32 (passed a.gain)))) q.new.out q.result =
-    record { bytes = q.ensures.bytes; place = q.ensures.next } in
+    let at = goal.at.returns c in
     let r = c.put_text in
-    let k = laid_ends (three_laid (gain_parts a.gain c.ranges.gain a.out.now a.at c.requires) one two
+    let k = laid_ends (three_laid (gain_parts a.gain c.ranges.gain a.out.now a.at c.requires) (one at.After-put_text-next) (two at.After-put_number-next)
     (record { bytes = r.ensures.bytes; place = r.ensures.next })) refl in
     record { bytes = k.0; next = k.1 }

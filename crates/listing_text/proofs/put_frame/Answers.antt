@@ -6,6 +6,17 @@ use Rattle.show.proofs.Laid.{Laid, laid_ends, first_room, second_room, third_roo
 use Rattle.listing_text.specs.Labels.{frame_label, at_label, length_label}
 use Rattle.listing_text.proofs.Texts.{frame_parts}
 use Rattle.listing_text.proofs.put_frame.Goals as goal
+use Rattle.listing_text.proofs.put_frame.Goals.{After-put_named-next, After-put_named-next-2}
+
+-- the first text is laid, and the second behind it
+one : (c : After-put_named-next) → Laid c.args.out.now c.args.at (frame_label ++ decimal c.args.i) c.put_named-next.new.out c.put_named-next.result
+unfolding frame_label at_label length_label
+one c = record { bytes = c.put_named-next.ensures.bytes; place = c.put_named-next.ensures.next }
+
+two : (c : After-put_named-next-2)
+    → Laid c.put_named-next.new.out c.put_named-next.result (at_label ++ decimal c.args.place) c.put_named-next-2.new.out c.put_named-next-2.result
+unfolding frame_label at_label length_label
+two c = record { bytes = c.put_named-next-2.ensures.bytes; place = c.put_named-next-2.ensures.next }
 
 pub put_named-next-requires : goal.put_named-next-requires
 unfolding frame_label at_label length_label
@@ -17,34 +28,21 @@ pub put_named-next-requires-2 : goal.put_named-next-requires-2
 unfolding frame_label at_label length_label
 put_named-next-requires-2 c =
     let a = c.args in
-    let p = c.put_named-next in
-    let one : Laid a.out.now a.at (frame_label ++ decimal a.i) p.new.out p.result =
-    record { bytes = p.ensures.bytes; place = p.ensures.next } in
-    second_room (frame_parts a.out.now a.at a.i a.place a.n c.requires) one
+    second_room (frame_parts a.out.now a.at a.i a.place a.n c.requires) (one (goal.at.put_named-next-requires-2 c).After-put_named-next)
 
 pub put_line-requires : goal.put_line-requires
 unfolding frame_label at_label length_label
 put_line-requires c =
     let a = c.args in
-    let p = c.put_named-next in
-    let q = c.put_named-next-2 in
-    let one : Laid a.out.now a.at (frame_label ++ decimal a.i) p.new.out p.result =
-    record { bytes = p.ensures.bytes; place = p.ensures.next } in
-    let two : Laid p.new.out p.result (at_label ++ decimal a.place) q.new.out q.result =
-    record { bytes = q.ensures.bytes; place = q.ensures.next } in
-    third_room (frame_parts a.out.now a.at a.i a.place a.n c.requires) one two
+    let at = goal.at.put_line-requires c in
+    third_room (frame_parts a.out.now a.at a.i a.place a.n c.requires) (one at.After-put_named-next) (two at.After-put_named-next-2)
 
 pub returns : goal.returns
 unfolding frame_label at_label length_label
 returns c =
     let a = c.args in
-    let p = c.put_named-next in
-    let q = c.put_named-next-2 in
-    let one : Laid a.out.now a.at (frame_label ++ decimal a.i) p.new.out p.result =
-    record { bytes = p.ensures.bytes; place = p.ensures.next } in
-    let two : Laid p.new.out p.result (at_label ++ decimal a.place) q.new.out q.result =
-    record { bytes = q.ensures.bytes; place = q.ensures.next } in
+    let at = goal.at.returns c in
     let r = c.put_line in
-    let k = laid_ends (three_laid (frame_parts a.out.now a.at a.i a.place a.n c.requires) one two
+    let k = laid_ends (three_laid (frame_parts a.out.now a.at a.i a.place a.n c.requires) (one at.After-put_named-next) (two at.After-put_named-next-2)
     (record { bytes = r.ensures.bytes; place = r.ensures.next })) refl in
     record { bytes = k.0; next = k.1 }
