@@ -1,5 +1,4 @@
 -- `collector::check` meets its contract: by what the head says, and by the frames' lengths and numbers.
--- the frames that are left to look at
 use Rattle.std.proofs.Common.{◌≡◌, ◌≤◌, length, take, sym, ◌∙◌, arith, length-take-le, rules}
 use Rattle.collector.proofs.Checks.{known_checked, Look, look}
 use Rattle.collector.proofs.check.Goals as goal

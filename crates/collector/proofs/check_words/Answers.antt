@@ -1,5 +1,4 @@
 -- `collector::check_words` meets its contract: by what the head says, and by what is told of the frames' lengths and numbers.
--- the frames that are left to look at
 use Rattle.std.proofs.Common.{◌≤◌, sym, ◌∙◌, rules}
 use Rattle.collector.proofs.Checks.{known_checked, Look, look, told_unsound, told-sound}
 use Rattle.collector.proofs.check_words.Goals as goal

@@ -42,7 +42,6 @@ overflow_cast-end c =
     let t = takes c in
     passed_fits c.ranges.end t.ends (omega (arith, t.within, few c, (holds c).few))
 
--- the order is not refused
 pub put_range-n-requires : goal.put_range-n-requires
 put_range-n-requires c =
     let frames = held (bare c.args.h c.args.len.now) c.args.store.now in

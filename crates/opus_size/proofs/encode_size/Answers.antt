@@ -1,4 +1,5 @@
 -- `opus_size::encode_size` meets its contract: the tests on the way to each `return` say which case of `encode_size` holds.
+-- Assumes nothing.
 use mathlib.Core.Path.{◌≡◌, ap, ◌∙◌}
 use native.Mathlib.Omega.{arith}
 use native.Mathlib.Nat.{zero-add}
@@ -11,8 +12,6 @@ use Rattle.opus_size.proofs.Fields.{width}
 use Rattle.opus_size.proofs.Put.{encode_negative, encode_long, encode_full, encode_put}
 use Rattle.opus_size.proofs.encode_size.Goals as goal
 
--- `opus_size::encode_size` meets its contract: the tests on the way to each `return` say which case of `encode_size` holds.
--- Assumes nothing.
 pub returns-in_default : goal.returns-in_default
 returns-in_default c =
     let back : to_z w32 (of_z w32 c.refusal_number.result) ≡ c.refusal_number.result = search rules in

@@ -1,10 +1,9 @@
 -- `opus_size::parse_size` meets its contract: by the rule that it is told.
+-- Assumes nothing.
 use mathlib.Core.Path.{◌∙◌}
 use Rattle.opus_size.proofs.At.{told_4, told_7, told_8, told_other}
 use Rattle.opus_size.proofs.parse_size.Goals as goal
 
--- `opus_size::parse_size` meets its contract: by the rule that it is told.
--- Assumes nothing.
 pub returns-in-4 : goal.returns-in-4
 returns-in-4 c =
     c.size_told.ensures ∙ told_4 _ _ c.in-4.is

@@ -1,11 +1,10 @@
 -- `opus_size::put_size` meets its contract: the bytes stored are those of the field.
+-- Assumes nothing.
 use native.Mathlib.Omega.{arith}
 use lib.ListN.{length-set}
 use Rattle.opus_size.proofs.Put.{put_short, put_long}
 use Rattle.opus_size.proofs.put_size.Goals as goal
 
--- `opus_size::put_size` meets its contract: the bytes stored are those of the field.
--- Assumes nothing.
 pub bounds-data-at : goal.bounds-data-at
 bounds-data-at c =
     let p = (put_short c.args.«data».now c.args.at c.args.size c.if-size-lt252.true).1 in

@@ -1,12 +1,11 @@
 -- `opus_size::size_at` meets its contract: at each `return` the tests that led there say which field stands at the place.
+-- Assumes nothing.
 use mathlib.Core.Path.{ap, ◌∙◌}
 use Prim.Native.Nat.{ℕ, ◌+◌}
 use Rattle.opus_size.specs.declared.SizeAt.TheVariants.{Whole}
 use Rattle.opus_size.proofs.At.{at_end, at_short, at_cut, at_long}
 use Rattle.opus_size.proofs.size_at.Goals as goal
 
--- `opus_size::size_at` meets its contract: at each `return` the tests that led there say which field stands at the place.
--- Assumes nothing.
 pub returns-then-data-at : goal.returns-then-data-at
 returns-then-data-at c =
     at_end _ _ c.if-data-at.true

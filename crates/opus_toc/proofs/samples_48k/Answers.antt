@@ -1,5 +1,6 @@
 -- `opus_toc::samples_48k` meets its contract: each arm names the configurations that have its samples, and one test at all 32 says that
 -- the last arm has the rest.
+-- Assumes nothing.
 use Prim.Native.Nat.{ℕ, ◌/◌, ◌<◌}
 use native.Mathlib.Omega.{arith}
 use mathlib.Core.Path.{◌≡◌, refl}
@@ -14,7 +15,6 @@ use Rattle.opus_toc.specs.Toc.{configuration, duration, samples}
 use Rattle.opus_toc.proofs.Keys.{AllOf, key_holds, no_key}
 use Rattle.opus_toc.proofs.samples_48k.Goals as goal
 
--- Assumes nothing.
 abbrev Has : ℕ → ℕ → Type 0
 Has n c = n ≡ samples 48000 c
 

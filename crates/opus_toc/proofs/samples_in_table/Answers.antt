@@ -1,4 +1,5 @@
 -- `opus_toc::samples_in_table` meets its contract: the table's rule is one test at all 256 TOC bytes, which antt computes.
+-- Assumes nothing.
 use mathlib.Core.Path.{refl, ap, ◌∙◌}
 use Prim.Native.Nat.{ℕ}
 use mathlib.Core.List.{List, [], ◌∷◌, ◌++◌}
@@ -7,7 +8,6 @@ use Rattle.opus_toc.specs.Toc.{configuration, duration, samples}
 use Rattle.opus_toc.proofs.Samples.{table_rule}
 use Rattle.opus_toc.proofs.samples_in_table.Goals as goal
 
--- Assumes nothing.
 -- the table: a row of eight TOC bytes for each configuration
 eightfold : List ℕ → List ℕ
 eightfold [] = []

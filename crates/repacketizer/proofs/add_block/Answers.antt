@@ -65,7 +65,6 @@ returns c =
     joins_block (fits (goal.at.returns c).Else-not-goes_with) c.args.«data».now c.args.first c.wide-place.ensures.0 c.copy_into.ensures c.put_lengths.ensures
     c.put_numbers.ensures c.more_frames.ensures (sum (goal.at.returns c).After-wide) (omega arith)
 
--- the bytes of the new frames, as the code counts them
 pub returns-then-not-goes_with : goal.returns-then-not-goes_with
 returns-then-not-goes_with c =
     block_stays c.args.h c.args.len.now c.args.packet.now c.args.toc c.args.ns.now c.args.«data».now c.args.first c.args.store.now c.goes_with.ensures

@@ -41,7 +41,6 @@ pub why_not-requires : goal.why_not-requires
 why_not-requires c =
     few (goal.at.why_not-requires c).Start
 
--- the frames held are at most 48
 pub add_block-requires : goal.add_block-requires
 add_block-requires c =
     let q = packet_with c.read_into-p.result c.read_into-p.new.lengths in

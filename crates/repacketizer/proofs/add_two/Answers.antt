@@ -64,7 +64,6 @@ returns c =
     (two_put c.args.len.now c.wide-place.result c.args.m c.args.n) c.put_numbers.ensures c.more_frames.ensures (sum (goal.at.returns c).After-wide-2)
     (omega arith)
 
--- the bytes of the frames, as the code counts them
 pub returns-then-not-goes_with : goal.returns-then-not-goes_with
 returns-then-not-goes_with c =
     block_stays c.args.h c.args.len.now c.args.packet.now c.args.toc (c.args.m ∷ c.args.n ∷ []) c.args.«data».now c.args.first c.args.store.now

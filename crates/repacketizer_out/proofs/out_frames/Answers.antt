@@ -67,7 +67,6 @@ put_frames-requires c =
       block = (omega (arith, from (goal.at.put_frames-requires c).After-wide, p.block, c.requires.buffers.0), c.requires.buffers.1);
     }
 
--- where it begins
 pub returns : goal.returns
 returns c =
     let whole = meets_number
