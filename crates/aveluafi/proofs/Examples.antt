@@ -8,7 +8,7 @@ use lib.IntN.{pos, negsuc}
 use lib.ListN.{replicate}
 use Rattle.opus_defines.specs.Rules.{rule_refusal}
 use Rattle.opus_defines.specs.declared.Refusal.TheVariants.{OverBudget}
-use Rattle.opus_defines.specs.declared.Verdict.TheVariants.{Accepted}
+use Rattle.std.specs.Prelude.{Ok}
 use Rattle.opus_toc.specs.Toc.{duration}
 use Rattle.opus_size.specs.Answers.{size_told, parse_size}
 use Rattle.opus_format.specs.Reading.{read}
@@ -61,7 +61,7 @@ unfolding next_record record_from before packet_length
 records_in_c = refl
 
 -- a share that was done, with five numbers that are told apart, and one that is over its budget
-pub shares_in_c : share_record (record { verdict = Accepted; resume = 26; records = 3; written = 22; reclaimed = 1; passed = 4 })
+pub shares_in_c : share_record (record { verdict = Ok tt; resume = 26; records = 3; written = 22; reclaimed = 1; passed = 4 })
     ∷ share_record (no_share OverBudget) ∷ []
     ≡ record { number = pos 0; resume = 26; records = 3; written = 22; reclaimed = 1; passed = 4 }
     ∷ record { number = negsuc 20; resume = 0; records = 0; written = 0; reclaimed = 0; passed = 0 } ∷ []

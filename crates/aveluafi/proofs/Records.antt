@@ -32,8 +32,8 @@ use Rattle.opus_defines.specs.declared.Refusal.TheVariants.{BadArg}
 use Rattle.opus_defines.specs.declared.Report.{Report}
 use Rattle.opus_defines.specs.declared.Rule.{Rule}
 use Rattle.opus_defines.specs.declared.Rule.TheVariants.{R4, R7, R8}
-use Rattle.opus_defines.specs.declared.Verdict.{Verdict}
-use Rattle.opus_defines.specs.declared.Verdict.TheVariants.{Accepted, Refused}
+use Rattle.std.specs.Prelude.{Err, Ok, Result, IfOk}
+use lib.Seq.{length-take-le}
 use Rattle.opus_size.specs.Size.{Field, no_field, field, length_field, read_field}
 use Rattle.opus_size.specs.Answers.{encode_size, size_of, size_number, size_told, parse_size}
 use Rattle.opus_size.specs.declared.Size.{Size}
@@ -41,12 +41,12 @@ use Rattle.opus_size.proofs.Fields.{width, field_was}
 use Rattle.opus_toc.specs.Answers.{samples_per_frame}
 use Rattle.opus_format.specs.Frames.{padded48}
 use Rattle.opus_format.specs.Reading.{Reading, refused, accepted, read}
-use Rattle.opus.specs.Answers.{no_packet, packet_number, packet_of, parsed, answer_of}
+use Rattle.opus.specs.Answers.{packet_number, packet_report, packet_with, parsed}
 use Rattle.opus.specs.declared.Packet.{Packet}
 use Rattle.opus.specs.declared.PacketHead.{PacketHead}
 use Rattle.opus.proofs.AtPacket.{parse_long, parse_read}
 use Rattle.opus.proofs.AtEqual.{EqualRead}
-use Rattle.opus.proofs.Lent.{lent_accepted}
+use Rattle.opus.proofs.Parsed.{lengths_of, parsed_accepted}
 use Rattle.opus_format.proofs.Facts.{facts}
 use Rattle.capture.specs.declared.NextRecord.{NextRecord}
 use Rattle.compaction.specs.declared.Share.{Share}
@@ -54,48 +54,23 @@ use Rattle.opus_head.specs.declared.HeadRead.{HeadRead}
 use Rattle.aveluafi.specs.Records.{size_record, packet_record, whole_record, capture_record, share_record, head_record}
 
 -- ---- a packet that was read, with its lengths in the array l
-few : (sd : Bool) (p : List ℕ) → Bytes p → (parsed sd p).count ≤ 48
-few sd p bytes =
-    by_test (ltb 65535 (length p)) (λ t. rw (← parse_long sd p (ltb-true 65535 (length p) t)) (omega arith))
-    (λ t. rw (← parse_read sd p (ltb-false 65535 (length p) t)) (go (read sd p) refl))
-  where
-    go : (x : Reading) → read sd p ≡ x → (packet_of (read sd p)).count ≤ 48
-    go (refused rule place) q = rw q (omega arith)
-    go (accepted toc ns first taken) q = rw q (facts sd p toc ns first taken bytes q).few
-
--- beside a refusal the answer is zeros
-refused_zeros : (sd : Bool) (p : List ℕ) (e : Refusal) → (parsed sd p).verdict ≡ Refused e → parsed sd p ≡ no_packet e
-refused_zeros sd p e v =
-    by_test (ltb 65535 (length p))
-    (λ t. let long = parse_long sd p (ltb-true 65535 (length p) t) in
-    let w : Refused BadArg ≡ Refused e = ap (λ (x : Packet). x.verdict) long ∙ v in
-    sym long ∙ ap no_packet (same w))
-    (λ t. let short = parse_read sd p (ltb-false 65535 (length p) t) in
-    let w : (packet_of (read sd p)).verdict ≡ Refused e = ap (λ (x : Packet). x.verdict) short ∙ v in
-    sym short ∙ go (read sd p) w)
-  where
-    same : {a : Refusal} → Refused a ≡ Refused e → a ≡ e
-    same w = cc
-
-    go : (x : Reading) → (packet_of x).verdict ≡ Refused e → packet_of x ≡ no_packet e
-    go (refused rule place) w = ap no_packet (same w)
-    go (accepted toc ns first taken) w = never (cc)
-
-module _ (sd : Bool) (p : List ℕ) (h : PacketHead) (l : List ℕ) where
+module _ (sd : Bool) (p : List ℕ) (h : PacketHead) (l : List ℕ) (e : Ok (packet_with h l) ≡ parsed sd p) where
   -- at most 48 frames
-  pub read_few : Bytes p → answer_of h l ≡ parsed sd p → h.count ≤ 48
-  read_few bytes e = let n : h.count ≡ (parsed sd p).count = ap (λ (r : Packet). r.count) e in omega (arith, n, few sd p bytes)
+  pub read_few : Bytes p → h.count ≤ 48
+  read_few bytes =
+      let d = parsed_accepted sd p (packet_with h l) e in
+      let f = facts sd p h.toc (lengths_of (packet_with h l)) h.first h.taken bytes d.means in
+      omega (arith, f.few, length-take-le h.count l d.inside)
 
-  module _ (e : answer_of h l ≡ parsed sd p) where
-    pub record_read : h.verdict ≡ Accepted → whole_record h l ≡ packet_record (parsed sd p)
-    record_read v = rw (← lent_accepted sd p h l e v, v)
+  pub record_read : whole_record h l ≡ packet_record (parsed sd p)
+  record_read = ap packet_record e
 
-    pub record_unread : {c : Refusal} → h.verdict ≡ Refused c → packet_record (no_packet c) ≡ packet_record (parsed sd p)
-    record_unread {c} v = ap packet_record (sym (refused_zeros sd p c (ap (λ (r : Packet). r.verdict) (sym e) ∙ v)))
+pub record_unread : (sd : Bool) (p : List ℕ) {c : Refusal} → Err c ≡ parsed sd p → packet_record (Err c) ≡ packet_record (parsed sd p)
+record_unread sd p e = ap packet_record e
 
 -- ---- a packet, by what was read of it without an array: its frames, or the rule that it breaks
 module _ (sd : Bool) (p : List ℕ) where
-  pub long_record : 65535 < length p → packet_record (no_packet BadArg) ≡ packet_record (parsed sd p)
+  pub long_record : 65535 < length p → packet_record (Err BadArg) ≡ packet_record (parsed sd p)
   long_record h = ap packet_record (parse_long sd p h)
 
   module _ (h : length p ≤ 65535) where
@@ -117,7 +92,7 @@ module _ (sd : Bool) (p : List ℕ) where
     two_record m n first taken k e t = read_record (m ∷ n ∷ []) first taken k e refl t
 
     pub broken_record : (rule : Rule) (place : ℕ) → read sd p ≡ refused rule place → {e : Refusal} → e ≡ rule_refusal rule place
-        → packet_record (no_packet e) ≡ packet_record (parsed sd p)
+        → packet_record (Err e) ≡ packet_record (parsed sd p)
     broken_record rule place q r = rw (← parse_read sd p h, q, r)
 
 -- one of code 3 with frames of one length
@@ -129,46 +104,50 @@ same_record p h n each first s e q =
     read_record false p h (replicate n each) first (length p) s.means (e ∙ ap (λ (k : ℕ). plain (pos k)) (sym (length-replicate n each))) q refl
 
 -- a field of one or two bytes, whatever rule asks for it
-told_few : (rule : Rule) (s : List ℕ) → Bytes s → (size_told rule s).bytes ≤ 2
+abbrev Few : Result Size Refusal → Type 0
+Few s = IfOk s (λ (x : Size). x.bytes ≤ 2)
+
+told_few : (rule : Rule) (s : List ℕ) → Bytes s → Few (size_told rule s)
 unfolding size_told
 told_few rule s bytes = go (read_field s) refl
   where
-    go : (x : Field) → read_field s ≡ x → (size_of rule s (read_field s)).bytes ≤ 2
-    go no_field q = rw q (omega arith)
+    go : (x : Field) → read_field s ≡ x → Few (size_of rule s (read_field s))
+    go no_field q = rw q tt
     go (field n t) q =
         let w = (field_was s t n bytes q).0 in
         let few : length s - length t ≤ 2 = rw w (omega (arith, length-append (length_field n) t, width n)) in
         rw q few
 
-pub size_few : (told : ℕ) (s : List ℕ) → Bytes s → (parse_size told s).bytes ≤ 2
+pub size_few : (told : ℕ) (s : List ℕ) → Bytes s → Few (parse_size told s)
 unfolding parse_size
 size_few told s bytes =
     by_test (eqb told 4) (λ t. rw t (told_few R4 s bytes)) (λ t. rw t
     (by_test (eqb told 7) (λ u. rw u (told_few R7 s bytes)) (λ u. rw u
-    (by_test (eqb told 8) (λ v. rw v (told_few R8 s bytes)) (λ v. rw v (omega arith))))))
+    (by_test (eqb told 8) (λ v. rw v (told_few R8 s bytes)) (λ v. rw v tt)))))
 
 -- ---- a report in a record
-pub size_reported : (s : Size) {r : Report} → r ≡ verdict_report s.bytes s.verdict → record { report = r; size = s.size } ≡ size_record s
+pub size_reported : (s : Size) {r : Report} → r ≡ plain (pos s.bytes) → record { report = r; size = s.size } ≡ size_record (Ok s)
 size_reported s e = rw e
+
+pub no_size_reported : (e : Refusal) {r : Report} → r ≡ refusal_report e → record { report = r; size = 0 } ≡ size_record (Err e)
+no_size_reported e q = rw q
 
 pub whole_reported : (h : PacketHead) (l : List ℕ) {r : Report} → r ≡ plain (pos h.count)
     → record { report = r; lengths = l; toc = h.toc; payload_offset = h.first; packet_offset = h.taken } ≡ whole_record h l
 whole_reported h l e = rw e
 
 pub none_reported : (c : Refusal) {r : Report} → r ≡ refusal_report c
-    → record { report = r; lengths = padded48 []; toc = 0; payload_offset = 0; packet_offset = 0 } ≡ packet_record (no_packet c)
+    → record { report = r; lengths = padded48 []; toc = 0; payload_offset = 0; packet_offset = 0 } ≡ packet_record (Err c)
 none_reported c e = rw e
 
 -- ---- the number of a record is the one of the core's answer: rule and place change none
-reported_number : (n : ℕ) (v : Verdict) → (verdict_report n v).number ≡ verdict_number (pos n) v
-reported_number n Accepted = refl
-reported_number n (Refused e) = refl
+pub size_number_lem : (s : Result Size Refusal) → (size_record s).report.number ≡ size_number s
+size_number_lem (Ok s) = refl
+size_number_lem (Err e) = refl
 
-pub size_number_lem : (s : Size) → (size_record s).report.number ≡ size_number s
-size_number_lem s = reported_number s.bytes s.verdict
-
-pub packet_number_lem : (p : Packet) → (packet_record p).report.number ≡ packet_number p
-packet_number_lem p = reported_number p.count p.verdict
+pub packet_number_lem : (p : Result Packet Refusal) → (packet_record p).report.number ≡ packet_number p
+packet_number_lem (Ok p) = refl
+packet_number_lem (Err e) = refl
 
 -- ---- numbers as C hands them over: a call is passed the bits of the number
 pub size_passed : (size : ℤ) (s : List ℕ) → SFits w32 size → {n : ℤ} {t : List ℕ}

@@ -1,7 +1,9 @@
 -- The core's answers as the records that C sees: the verdict becomes its report, that is number, rule and place, and the other fields are the same.
-use Rattle.std.specs.Prelude.{ℕ, List, pos}
-use Rattle.opus_defines.specs.Numbers.{verdict_report, verdict_number}
-use Rattle.opus_defines.specs.declared.Verdict.TheVariants.{Accepted}
+use Rattle.std.specs.Prelude.{ℕ, List, [], pos, Result, Ok, Err}
+use Rattle.opus_defines.specs.Numbers.{plain, refusal_report, verdict_number}
+use Rattle.opus_defines.specs.declared.Refusal.{Refusal}
+use Rattle.opus_format.specs.Frames.{padded48}
+use Rattle.opus.specs.Answers.{packet_with}
 use Rattle.opus_size.specs.declared.Size.{Size}
 use Rattle.opus.specs.declared.Packet.{Packet}
 use Rattle.opus.specs.declared.PacketHead.{PacketHead}
@@ -16,26 +18,33 @@ use Rattle.aveluafi.specs.declared.compacting.AveluafiShare.{AveluafiShare}
 use Rattle.opus_head.specs.declared.HeadRead.{HeadRead}
 use Rattle.aveluafi.specs.declared.identification.AveluafiHead.{AveluafiHead}
 
--- the number is the bytes of the field, or the refusal's
-abbrev pub size_record : Size → AveluafiSize
-size_record s = record { report = verdict_report s.bytes s.verdict; size = s.size }
+-- the number is the bytes of the field, or the refusal's, with zeros beside it
+abbrev pub size_record : Result Size Refusal → AveluafiSize
+size_record (Ok s) = record { report = plain (pos s.bytes); size = s.size }
+size_record (Err e) = record { report = refusal_report e; size = 0 }
 
--- the number is the count of frames, or the refusal's
-abbrev pub packet_record : Packet → AveluafiPacket
-packet_record p =
+-- the number is the count of frames, or the refusal's, with zeros beside it
+abbrev pub packet_record : Result Packet Refusal → AveluafiPacket
+packet_record (Ok p) =
     record {
-      report = verdict_report p.count p.verdict;
+      report = plain (pos p.count);
       lengths = p.lengths;
       toc = p.toc;
       payload_offset = p.first;
       packet_offset = p.taken;
     }
+packet_record (Err e) =
+    record {
+      report = refusal_report e;
+      lengths = padded48 [];
+      toc = 0;
+      payload_offset = 0;
+      packet_offset = 0;
+    }
 
 -- of a packet that was read, with its lengths beside it
 abbrev pub whole_record : PacketHead → List ℕ → AveluafiPacket
-whole_record p lengths =
-    packet_record
-    (record { verdict = Accepted; toc = p.toc; count = p.count; lengths = lengths; first = p.first; taken = p.taken })
+whole_record p lengths = packet_record (Ok (packet_with p lengths))
 
 abbrev pub capture_record : NextRecord → AveluafiRecord
 capture_record r =

@@ -1,14 +1,14 @@
 // Length fields, the TOC byte and the packet reader, exported.
-ghost use Rattle.std.specs.Prelude.{◌≡◌, false, ◌<◌, ◌≤◌};
+ghost use Rattle.std.specs.Prelude.{◌≡◌, false, ◌<◌, ◌≤◌, Err, IfOk};
 ghost use Rattle.opus_defines.specs.Numbers.{number_of};
 ghost use Rattle.opus_size.specs.Answers.{encode_size, parse_size};
 ghost use Rattle.opus_toc.specs.Answers.{samples_per_frame, nb_frames};
-ghost use Rattle.opus.specs.Answers.{no_packet, parsed};
+ghost use Rattle.opus.specs.Answers.{parsed};
 ghost use Rattle.aveluafi.specs.Records.{size_record, packet_record, whole_record};
 
 use opus::code_3::Equal;
 use opus::{PacketHead, Short};
-use opus_defines::{Answer, Refusal, Report, Verdict};
+use opus_defines::{Refusal, Report};
 use opus_size::Size;
 
 // The two records of reading. The header has the report's three fields, number, rule and place, as the record's own: they lie alike. Here they are one
@@ -45,14 +45,19 @@ pub extern "C" fn aveluafi_encode_size(size: i32, data: &mut [u8]) -> i32
     opus_size::encode_size(size, data)
 }
 
-fn size_record(s: Size) -> AveluafiSize
-    requires { s.bytes ≤ 2 }
+fn size_record(s: Result<Size, Refusal>) -> AveluafiSize
+    requires { IfOk s (λ x. x.bytes ≤ 2) }
     ensures { result ≡ size_record s }
 {
-    let v = s.verdict;
-    AveluafiSize {
-        report: opus_defines::verdict_report(s.bytes as u16, v),
-        size: s.size,
+    match s {
+        Ok(x) => AveluafiSize {
+            report: opus_defines::report_of(Ok(x.bytes as u16)),
+            size: x.size,
+        },
+        Err(e) => AveluafiSize {
+            report: opus_defines::refusal_report(e),
+            size: 0,
+        },
     }
 }
 
@@ -80,7 +85,7 @@ pub extern "C" fn aveluafi_packet_get_nb_frames(data: &[u8]) -> i32
 
 // Zeros beside a refusal's report.
 fn no_packet(e: Refusal) -> AveluafiPacket
-    ensures { result ≡ packet_record (no_packet e) }
+    ensures { result ≡ packet_record (Err e) }
 {
     let r = opus_defines::refusal_report(e);
     AveluafiPacket {
@@ -98,7 +103,7 @@ fn whole_packet(p: PacketHead, lengths: [u16; 48]) -> AveluafiPacket
     ensures { result ≡ whole_record p lengths }
 {
     AveluafiPacket {
-        report: opus_defines::report_of(Answer::Number(p.count as u16)),
+        report: opus_defines::report_of(Ok(p.count as u16)),
         lengths,
         toc: p.toc,
         payload_offset: p.first,
@@ -121,7 +126,7 @@ pub extern "C" fn aveluafi_packet_parse_impl(data: &[u8], self_delimited: bool) 
                 let mut lengths = [0u16; 48];
                 lengths[0] = size;
                 return AveluafiPacket {
-                    report: opus_defines::report_of(Answer::Number(1)),
+                    report: opus_defines::report_of(Ok(1)),
                     lengths,
                     toc: data[0],
                     payload_offset: first,
@@ -133,7 +138,7 @@ pub extern "C" fn aveluafi_packet_parse_impl(data: &[u8], self_delimited: bool) 
                 lengths[0] = size;
                 lengths[1] = last;
                 return AveluafiPacket {
-                    report: opus_defines::report_of(Answer::Number(2)),
+                    report: opus_defines::report_of(Ok(2)),
                     lengths,
                     toc: data[0],
                     payload_offset: first,
@@ -147,12 +152,10 @@ pub extern "C" fn aveluafi_packet_parse_impl(data: &[u8], self_delimited: bool) 
         }
     }
     let mut lengths = [0u16; 48];
-    let p = opus::read_into(data, self_delimited, &mut lengths);
-    let v = p.verdict;
-    let Verdict::Refused(e) = v else {
-        return whole_packet(p, lengths);
-    };
-    no_packet(e)
+    match opus::read_into(data, self_delimited, &mut lengths) {
+        Ok(p) => whole_packet(p, lengths),
+        Err(e) => no_packet(e),
+    }
 }
 
 // The ordinary packet. One or two frames of code 0, 1 or 2, and equally long ones of code 3, are read without an array, and each way returns by itself:
@@ -167,7 +170,7 @@ pub extern "C" fn aveluafi_packet_parse(data: &[u8]) -> AveluafiPacket
             let mut lengths = [0u16; 48];
             lengths[0] = n;
             return AveluafiPacket {
-                report: opus_defines::report_of(Answer::Number(1)),
+                report: opus_defines::report_of(Ok(1)),
                 lengths,
                 toc: data[0],
                 payload_offset: first,
@@ -179,7 +182,7 @@ pub extern "C" fn aveluafi_packet_parse(data: &[u8]) -> AveluafiPacket
             lengths[0] = m;
             lengths[1] = n;
             return AveluafiPacket {
-                report: opus_defines::report_of(Answer::Number(2)),
+                report: opus_defines::report_of(Ok(2)),
                 lengths,
                 toc: data[0],
                 payload_offset: first,
@@ -203,7 +206,7 @@ pub extern "C" fn aveluafi_packet_parse(data: &[u8]) -> AveluafiPacket
             let mut lengths = [0u16; 48];
             opus_parts::sizes_at::same_lengths(opus_defines::wide(n), each, &mut lengths);
             return AveluafiPacket {
-                report: opus_defines::report_of(Answer::Number(n)),
+                report: opus_defines::report_of(Ok(n)),
                 lengths,
                 toc: data[0],
                 payload_offset: first,
@@ -216,10 +219,8 @@ pub extern "C" fn aveluafi_packet_parse(data: &[u8]) -> AveluafiPacket
         Equal::Other => {}
     }
     let mut lengths = [0u16; 48];
-    let p = opus::read_packet(data, false, &mut lengths);
-    let v = p.verdict;
-    let Verdict::Refused(e) = v else {
-        return whole_packet(p, lengths);
-    };
-    no_packet(e)
+    match opus::read_packet(data, false, &mut lengths) {
+        Ok(p) => whole_packet(p, lengths),
+        Err(e) => no_packet(e),
+    }
 }

@@ -4,7 +4,7 @@ ghost use Rattle.std.specs.Prelude.{◌≡◌, ◌%◌};
 ghost use Rattle.opus_defines.specs.Numbers.{refusal_report, verdict_report};
 ghost use Rattle.aveluafi.specs.Words.{signed, report_in};
 
-use opus_defines::{Refusal, Report, Verdict};
+use opus_defines::{Refusal, Report};
 
 // Every refusal has a number below 0.
 fn refusal_word(e: Refusal) -> u64
@@ -16,10 +16,10 @@ fn refusal_word(e: Refusal) -> u64
 }
 
 // 0 where a packet was added, so that an add has nothing to put together.
-pub fn verdict_word(v: Verdict) -> u64
+pub fn verdict_word(v: Result<(), Refusal>) -> u64
     ensures { report_in result ≡ verdict_report 0 v }
 {
-    let Verdict::Refused(e) = v else {
+    let Err(e) = v else {
         return 0;
     };
     refusal_word(e)

@@ -3,15 +3,18 @@
 --     sets_lent          a run of stores in the part is one in the buffer
 --     sets-front         which is one from the front on with what stands before it
 --     sets-part          a run of stores in a part that ends before the buffer does
+--     sets-whole         a part that is stored whole
+--     part_between       a part that is read
 -- Assumes nothing.
 use Prim.Native.Nat.{ℕ, suc, ◌+◌, ◌-◌, ◌≤◌}
 use native.Mathlib.Nat.{add-suc, add-zero}
 use native.Mathlib.Omega.{arith}
-use mathlib.Core.Path.{◌≡◌, sym, ap, ◌∙◌}
+use mathlib.Core.Path.{◌≡◌, refl, sym, ap, ◌∙◌}
 use mathlib.Core.List.{List, [], ◌∷◌, ◌++◌, append-nil, append_assoc}
 use lib.ListN.{length, take, drop, set, length-take, length-drop, drop_of_length-le, take-append-drop}
 use lib.Seq.{sets, sets-eq, length-take-le, drop-drop, drop-set-add, take-set-le}
 use borrow.Rule.Slice.PartMut.{put_mid}
+use Rattle.blocks.specs.Blocks.{part}
 use Rattle.blocks.proofs.Sets.{sets-append, drop-take}
 
 pub put_back : (s : List ℕ) (at : ℕ) (v : List ℕ) → put_mid at (length s - at) s v ≡ take at s ++ v
@@ -50,3 +53,15 @@ sets-part s at n vs h k =
     rw (sets-eq vs (take n d) 0 (omega arith), none, sets-eq vs s at (omega arith), ← past)
     (ap (λ (l : List ℕ). take at s ++ l) (append_assoc vs (drop (length vs) (take n d)) (drop n d))
     ∙ sym (append_assoc (take at s) vs (drop (length vs) (take n d) ++ drop n d)))
+
+pub sets-whole : (s : List ℕ) (at n : ℕ) {v : List ℕ} (vs : List ℕ) → v ≡ vs → at + n ≤ length s → length vs ≡ n
+    → put_mid at (at + n - at) s v ≡ sets s at vs
+sets-whole s at n vs e h k =
+    let long : at + n - at ≡ n = omega arith in
+    rw (e, sets-eq vs s at (omega arith), k, long, drop-drop n at s) (sym (append_assoc (take at s) vs (drop (at + n) s)))
+
+-- a part that is read from one place to another
+pub part_between : (s : List ℕ) (from n : ℕ) → take (from + n - from) (drop from s) ≡ part s from n
+part_between s from n =
+    let long : from + n - from ≡ n = omega arith in
+    rw long refl

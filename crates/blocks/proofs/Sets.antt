@@ -5,12 +5,11 @@ use mathlib.Core.Logic.{◌≢◌}
 use mathlib.Core.List.{List, [], ◌∷◌, ◌++◌}
 use Prim.Native.Nat.{ℕ, zero, suc, ◌+◌, ◌-◌, ◌≤◌, ◌<◌}
 use native.Mathlib.Nat.{add-zero, zero-add, add-suc, suc-add, not-suc-le-zero, sub-zero, zero-sub, suc-sub-suc}
-use native.Mathlib.Numerals.{add-one}
 use native.Mathlib.Omega.{arith}
-use lib.ListN.{length, take, drop, get_or, set, replicate, length-take, length-drop, length-set, length-replicate, replicate-append-replicate, length-append}
-use lib.Seq.{sets, sets-eq, take-append_seam, take-suc, take-add, take-nil, drop-drop, drop-set-lt, take_at, length-take-le}
-use lib.Seq.{get_or-set_same, get_or-set_other, get_or-drop, set_comm, set-set}
-use Rattle.blocks.specs.Blocks.{part, filled, copied}
+use lib.ListN.{length, take, drop, get_or, set, length-take, length-drop, length-set, length-append}
+use lib.Seq.{sets, sets-eq, take-append_seam, take-add, take-nil, drop-drop, drop-set-lt, take_at, length-take-le}
+use lib.Seq.{get_or-set_same, get_or-set_other, set_comm, set-set}
+use Rattle.blocks.specs.Blocks.{part}
 
 -- two runs, one after the other, are one run
 pub sets-append : (l : List ℕ) (at : ℕ) (us vs : List ℕ) → sets l at (us ++ vs) ≡ sets (sets l at us) (at + length us) vs
@@ -93,11 +92,6 @@ length-part_le s from n = simp length-take (omega arith)
 pub length_part : (s : List ℕ) (from n : ℕ) → from + n ≤ length s → length (part s from n) ≡ n
 length_part s from n h = simp (length-take, length-drop) (omega arith)
 
-part-next : (s : List ℕ) (from n : ℕ) → from + n < length s → part s from (n + 1) ≡ part s from n ++ (get_or s (from + n) 0 ∷ [])
-part-next s from n h =
-    let h' : n < length (drop from s) = simp length-drop (omega arith) in
-    rw (add-one, take-suc (drop from s) n 0 h', get_or-drop)
-
 pub part-append : (s : List ℕ) (from j k : ℕ) → part s from (j + k) ≡ part s from j ++ part s (from + j) k
 part-append s from j k = rw (take-add j k (drop from s), drop-drop j from s)
 
@@ -107,20 +101,11 @@ take-sets l vs h =
     let fits : 0 + length vs ≤ length l = omega arith in
     rw (sets-eq vs l 0 fits) (take-append_seam vs (drop (0 + length vs) l))
 
--- ---- a turn of each loop
+-- ---- a turn of a loop of stores
 
 -- a store right after a run makes the run longer
 pub sets-next : (l : List ℕ) (at i : ℕ) (vs : List ℕ) (a : ℕ) → length vs ≡ i → set (sets l at vs) (at + i) a ≡ sets l at (vs ++ (a ∷ []))
 sets-next l at i vs a e = rw (sets-append, e)
-
-pub copied_next : (d : List ℕ) (at : ℕ) (s : List ℕ) (from i : ℕ) → from + i < length s
-    → set (copied d at s from i) (at + i) (get_or s (from + i) 0) ≡ copied d at s from (i + 1)
-copied_next d at s from i h =
-    let h' : from + i ≤ length s = omega arith in
-    rw part-next (sets-next d at i (part s from i) _ (length_part s from i h'))
-
-pub filled_next : (s : List ℕ) (from i v : ℕ) → set (filled s from i v) (from + i) v ≡ filled s from (i + 1) v
-filled_next s from i v = rw (← replicate-append-replicate i 1 v) (sets-next s from i (replicate i v) v (length-replicate i v))
 
 -- ---- the same as the parts of a list, for a caller that goes by `take`, `drop` and `++`
 

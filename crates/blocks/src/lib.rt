@@ -15,11 +15,7 @@ pub fn copy_bytes(dst: &mut [u8], at: usize, src: &[u8], from: usize, n: usize)
     requires { (at + n ≤ length dst.old) × (from + n ≤ length src.now) }
     ensures { dst.new ≡ copied dst.old at src.now from n }
 {
-    let mut i: usize = 0;
-    while i < n {
-        dst[at + i] = src[from + i];
-        i += 1;
-    }
+    dst[at..at + n].copy_from_slice(&src[from..from + n]);
 }
 
 // The same for a piece of k bytes.
@@ -69,11 +65,7 @@ pub fn fill(s: &mut [u8], from: usize, n: usize, value: u8)
     requires { from + n ≤ length s.old }
     ensures { s.new ≡ filled s.old from n value }
 {
-    let mut i: usize = 0;
-    while i < n {
-        s[from + i] = value;
-        i += 1;
-    }
+    s[from..from + n].fill(value);
 }
 
 // Copies n bytes, more than 128 of them in pieces of `most` and a last one.

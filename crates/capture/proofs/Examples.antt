@@ -6,7 +6,7 @@ use mathlib.Core.List.{List, [], ◌∷◌}
 use Prim.Native.Nat.{ℕ}
 use lib.IntN.{pos, negsuc}
 use Rattle.opus_defines.specs.declared.Refusal.TheVariants.{BadArg}
-use Rattle.opus_defines.specs.declared.Verdict.TheVariants.{Accepted, Refused}
+use Rattle.std.specs.Prelude.{Err, Ok}
 use Rattle.capture.specs.Records.{Entry, written, file_of}
 use Rattle.capture.specs.Finding.{packet_length, packet_at, before, record_from, next_record, record_number}
 use Rattle.capture.specs.Reading.{record_bytes, readings_in, readings, pieces, answers_for}
@@ -20,23 +20,23 @@ sample =
     ∷ []
 
 -- the whole capture: two records, and no other
-whole : readings sample 0 ≡ record { verdict = Accepted; line = 65; place = 1; length = 2; passed = 1 }
-    ∷ record { verdict = Accepted; line = 67; place = 13; length = 1; passed = 5 }
-    ∷ record { verdict = Accepted; line = 0; place = 24; length = 0; passed = 5 }
+whole : readings sample 0 ≡ record { verdict = Ok tt; line = 65; place = 1; length = 2; passed = 1 }
+    ∷ record { verdict = Ok tt; line = 67; place = 13; length = 1; passed = 5 }
+    ∷ record { verdict = Ok tt; line = 0; place = 24; length = 0; passed = 5 }
     ∷ []
 unfolding readings_in next_record record_from before packet_length record_bytes
 whole = refl
 
 -- from a place within the first record its other bytes are passed over too
-inside : next_record sample 2 ≡ record { verdict = Accepted; line = 67; place = 13; length = 1; passed = 11 }
+inside : next_record sample 2 ≡ record { verdict = Ok tt; line = 67; place = 13; length = 1; passed = 11 }
 unfolding next_record record_from before packet_length
 inside = refl
 
-at_the_end : next_record sample 24 ≡ record { verdict = Accepted; line = 0; place = 24; length = 0; passed = 0 }
+at_the_end : next_record sample 24 ≡ record { verdict = Ok tt; line = 0; place = 24; length = 0; passed = 0 }
 unfolding next_record record_from before packet_length
 at_the_end = refl
 
-past_the_end : next_record sample 25 ≡ record { verdict = Refused BadArg; line = 0; place = 0; length = 0; passed = 0 }
+past_the_end : next_record sample 25 ≡ record { verdict = Err BadArg; line = 0; place = 0; length = 0; passed = 0 }
 unfolding next_record
 past_the_end = refl
 
@@ -81,9 +81,9 @@ bytes : file_of entries ≡ 0x4B ∷ 0x9D ∷ 3 ∷ 0 ∷ 1 ∷ 10 ∷ 0x4B ∷ 
 unfolding file_of written
 bytes = refl
 
-answers : answers_for 0 entries ≡ record { verdict = Accepted; line = 3; place = 0; length = 1; passed = 0 }
-    ∷ record { verdict = Accepted; line = 4; place = 6; length = 2; passed = 0 }
-    ∷ record { verdict = Accepted; line = 0; place = 13; length = 0; passed = 0 }
+answers : answers_for 0 entries ≡ record { verdict = Ok tt; line = 3; place = 0; length = 1; passed = 0 }
+    ∷ record { verdict = Ok tt; line = 4; place = 6; length = 2; passed = 0 }
+    ∷ record { verdict = Ok tt; line = 0; place = 13; length = 0; passed = 0 }
     ∷ []
 unfolding answers_for
 answers = refl

@@ -4,7 +4,7 @@ use mathlib.Core.Path.{◌≡◌, refl}
 use mathlib.Core.List.{List, [], ◌∷◌, ◌++◌}
 use Prim.Native.Nat.{ℕ, ◌+◌, ◌/◌, ◌%◌}
 use lib.ListN.{length}
-use Rattle.opus_defines.specs.declared.Verdict.TheVariants.{Accepted}
+use Rattle.std.specs.Prelude.{Ok}
 use Rattle.capture.specs.Records.{Entry, written, file_of}
 use Rattle.capture.specs.Reading.{answers_for}
 
@@ -22,13 +22,13 @@ pub file_one : (e : Entry) (es : List Entry) → file_of (e ∷ es) ≡ written 
 unfolding file_of
 file_one e es = refl
 
-pub answers_none : (at : ℕ) → answers_for at [] ≡ record { verdict = Accepted; line = 0; place = at; length = 0; passed = 0 } ∷ []
+pub answers_none : (at : ℕ) → answers_for at [] ≡ record { verdict = Ok tt; line = 0; place = at; length = 0; passed = 0 } ∷ []
 unfolding answers_for
 answers_none at = refl
 
 pub answers_one : (at : ℕ) (e : Entry) (es : List Entry)
     → answers_for at (e ∷ es)
-    ≡ record { verdict = Accepted; line = e.line; place = at; length = length e.packet; passed = 0 }
+    ≡ record { verdict = Ok tt; line = e.line; place = at; length = length e.packet; passed = 0 }
     ∷ answers_for (at + (5 + length e.packet)) es
 unfolding answers_for
 answers_one at e es = refl

@@ -20,7 +20,7 @@ use lib.ListN.{length, get_or, drop, take, length-append, length-drop, take-appe
 use lib.Seq.{length-take-le}
 use borrow.Author.Tests.{eq-eqb, ne_eqb, eqb-true, eqb-false}
 use Rattle.laws.proofs.Never.{by_test}
-use Rattle.opus_defines.specs.declared.Verdict.TheVariants.{Accepted}
+use Rattle.std.specs.Prelude.{Ok}
 use Rattle.capture.specs.declared.NextRecord.{NextRecord}
 use Rattle.capture.specs.Records.{written, file_of}
 use Rattle.capture.specs.Finding.{packet_length, before, record_from, next_record}
@@ -85,7 +85,7 @@ entries-shifted front s [] = refl
 entries-shifted front s (a ∷ r) = rw (entry_shifted front s a, entries-shifted front s r)
 
 -- ---- nothing
-pub readings_nil : readings [] 0 ≡ record { verdict = Accepted; line = 0; place = 0; length = 0; passed = 0 } ∷ []
+pub readings_nil : readings [] 0 ≡ record { verdict = Ok tt; line = 0; place = 0; length = 0; passed = 0 } ∷ []
 unfolding readings_in next_record record_from before packet_length
 readings_nil = refl
 
@@ -100,7 +100,7 @@ passed_of_nil = refl
 -- ---- a record
 -- its answer
 abbrev pub answer_in : List ℕ → NextRecord
-answer_in l = record { verdict = Accepted; line = get_or l 2 0; place = 0; length = packet_length l; passed = 0 }
+answer_in l = record { verdict = Ok tt; line = get_or l 2 0; place = 0; length = packet_length l; passed = 0 }
 
 module _ (l : List ℕ) (f : packet_length l ≡ 0 → ⊥) where
   next_here : next_record l 0 ≡ answer_in l

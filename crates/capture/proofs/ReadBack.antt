@@ -7,7 +7,7 @@ use native.Mathlib.Nat.{add-zero}
 use native.Mathlib.Omega.{arith}
 use lib.ListN.{length, length-append}
 use lib.Seq.{drop-append_seam, drop-length}
-use Rattle.opus_defines.specs.declared.Verdict.TheVariants.{Accepted}
+use Rattle.std.specs.Prelude.{Ok}
 use Rattle.capture.specs.declared.NextRecord.{NextRecord}
 use Rattle.capture.specs.Records.{Entry, Holds, written, file_of, HoldAll}
 use Rattle.capture.specs.Finding.{packet_length, before, record_from, next_record}
@@ -19,10 +19,10 @@ use Rattle.capture.proofs.Written.{written-length, written_found, written_line}
 
 -- the answer for a record, with nothing passed over
 abbrev answer_of : ℕ → Entry → NextRecord
-answer_of at e = record { verdict = Accepted; line = e.line; place = at; length = length e.packet; passed = 0 }
+answer_of at e = record { verdict = Ok tt; line = e.line; place = at; length = length e.packet; passed = 0 }
 
 -- the end of a file
-end_next : (s : List ℕ) → next_record s (length s) ≡ record { verdict = Accepted; line = 0; place = length s; length = 0; passed = 0 }
+end_next : (s : List ℕ) → next_record s (length s) ≡ record { verdict = Ok tt; line = 0; place = length s; length = 0; passed = 0 }
 unfolding record_from before packet_length
 end_next s = rw (next_is s (length s) (omega arith), drop-length, add-zero, drop-length)
 

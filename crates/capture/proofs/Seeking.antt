@@ -13,7 +13,7 @@ use native.Mathlib.Omega.{arith}
 use lib.ListN.{length, get_or, drop, length-drop}
 use lib.Seq.{get_or-drop, drop-length}
 use lib.Dec.{eqb, leb}
-use Rattle.opus_defines.specs.declared.Verdict.TheVariants.{Accepted}
+use Rattle.std.specs.Prelude.{Ok}
 use Rattle.capture.specs.Finding.{Record}
 use Rattle.capture.specs.Finding.{length_in, packet_length, before, record_from, next_record}
 use Rattle.capture.proofs.Laws.{length_at, length_cut, length_whole, before_later, within, record_here, record_later, record_place, next_found}
@@ -105,9 +105,9 @@ module _ (s : List ℕ) (start place n : ℕ) (inside : start ≤ length s) (r :
       rw (e, r.long, there, get_or-drop)
 
   pub found_next : (line passed : ℕ) → line ≡ get_or s (place + 2) 0 → passed ≡ place - start
-      → record { verdict = Accepted; line = line; place = place; length = n; passed = passed } ≡ next_record s start
+      → record { verdict = Ok tt; line = line; place = place; length = n; passed = passed } ≡ next_record s start
   found_next line passed e p = next_found s start passed (record { line = line; place = place; length = n }) (found_record line e) p inside
 
   pub found_next-none : (line passed : ℕ) → line ≡ 0 → n ≡ 0 → passed ≡ place - start
-      → record { verdict = Accepted; line = line; place = place; length = n; passed = passed } ≡ next_record s start
+      → record { verdict = Ok tt; line = line; place = place; length = n; passed = passed } ≡ next_record s start
   found_next-none line passed l z p = found_next line passed (l ∙ sym (found_none z)) p

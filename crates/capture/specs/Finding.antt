@@ -4,7 +4,7 @@ use Rattle.std.specs.Prelude.{ℕ, suc, ◌+◌, ◌*◌, List, [], ◌∷◌, c
 use Rattle.opus_defines.specs.Numbers.{verdict_number}
 use Rattle.opus_defines.specs.declared.Refusal.{Refusal}
 use Rattle.opus_defines.specs.declared.Refusal.TheVariants.{BadArg}
-use Rattle.opus_defines.specs.declared.Verdict.TheVariants.{Accepted, Refused}
+use Rattle.std.specs.Prelude.{Err, Ok}
 use Rattle.capture.specs.Records.{head_bytes}
 use Rattle.capture.specs.declared.NextRecord.{NextRecord}
 
@@ -40,11 +40,11 @@ record_from s at =
 
 -- a refusal, and zeros
 abbrev pub no_record : Refusal → NextRecord
-no_record e = record { verdict = Refused e; line = 0; place = 0; length = 0; passed = 0 }
+no_record e = record { verdict = Err e; line = 0; place = 0; length = 0; passed = 0 }
 
 -- a record, and the bytes passed over before it
 abbrev pub with_passed : Record → ℕ → NextRecord
-with_passed r passed = record { verdict = Accepted; line = r.line; place = r.place; length = r.length; passed = passed }
+with_passed r passed = record { verdict = Ok tt; line = r.line; place = r.place; length = r.length; passed = passed }
 
 -- `next_record`: a start past the end is refused, the end is not
 unfoldable pub next_record : List ℕ → ℕ → NextRecord

@@ -1,7 +1,7 @@
 -- A capture read from a place to its end (document 02, M-101): the answers of `next_record`, each asked for behind the record before, the last
 -- one saying that there is none. The answers tell every byte apart: passed over, or of a record.
 use Rattle.std.specs.Prelude.{ℕ, zero, suc, ◌+◌, ◌-◌, ◌<◌, ◌≤◌, ◌≡◌, ◌⊎◌, List, [], ◌∷◌, ◌++◌, map, cond, eqb, leb, ltb, length, take, drop}
-use Rattle.opus_defines.specs.declared.Verdict.TheVariants.{Accepted}
+use Rattle.std.specs.Prelude.{Ok}
 use Rattle.capture.specs.Records.{Entry, head_bytes}
 use Rattle.capture.specs.Finding.{packet_at, next_record}
 use Rattle.capture.specs.declared.NextRecord.{NextRecord}
@@ -98,7 +98,7 @@ times_held (a ∷ more) k = within a.place (behind a) k + times_held more k
 -- ---- records one right behind another
 -- the answers for such records, of which the first stands at a place: nothing is passed over
 unfoldable pub answers_for : ℕ → List Entry → List NextRecord
-answers_for at [] = record { verdict = Accepted; line = 0; place = at; length = 0; passed = 0 } ∷ []
+answers_for at [] = record { verdict = Ok tt; line = 0; place = at; length = 0; passed = 0 } ∷ []
 answers_for at (e ∷ es) =
-    record { verdict = Accepted; line = e.line; place = at; length = length e.packet; passed = 0 }
+    record { verdict = Ok tt; line = e.line; place = at; length = length e.packet; passed = 0 }
     ∷ answers_for (at + (head_bytes + length e.packet)) es

@@ -7,7 +7,7 @@
 ghost use Rattle.std.specs.Prelude.{◌≡◌, ◌<◌, ◌≤◌, length, drop};
 ghost use Rattle.capture.specs.Finding.{packet_length, packet_at, record_from, next_record};
 
-use opus_defines::{Refusal, Verdict, wide_byte};
+use opus_defines::{Refusal, wide_byte};
 
 // The bytes of a record before its packet.
 pub const HEAD_BYTES: usize = 5;
@@ -15,7 +15,7 @@ pub const HEAD_BYTES: usize = 5;
 // What `next_record` answers: a record, and the bytes passed over before it. All zeros beside a refusal.
 #[derive(Clone, Copy)]
 pub struct NextRecord {
-    pub verdict: Verdict,
+    pub verdict: Result<(), Refusal>,
     pub line: u8,
     pub place: usize,
     pub length: usize,
@@ -108,7 +108,7 @@ pub fn next_record(data: &[u8], start: usize) -> NextRecord
 {
     if data.len() < start {
         return NextRecord {
-            verdict: Verdict::Refused(Refusal::BadArg),
+            verdict: Err(Refusal::BadArg),
             line: 0,
             place: 0,
             length: 0,
@@ -128,7 +128,7 @@ pub fn next_record(data: &[u8], start: usize) -> NextRecord
         line = data[place + 2];
     }
     NextRecord {
-        verdict: Verdict::Accepted,
+        verdict: Ok(()),
         line,
         place,
         length: n,

@@ -23,10 +23,10 @@ module _ (buf : List ℕ) (f : Filled) (h : FilledIn buf f) where
   filled-full : f.last ≡ false → f.held ≡ length buf
   filled-full e = let most = ltb-false f.held (length buf) (sym h.ending ∙ e) in omega (arith, h.within)
 
-  pub last-part : f.last ≡ true → PartOf buf (record { ok = f.ok; last = true; held = f.held; bytes = f.held })
+  pub last-part : f.last ≡ true → PartOf buf (record { last = true; held = f.held; bytes = f.held })
   last-part e = record { within = h.within; ending = sym e ∙ h.ending; amount = refl }
 
-  pub settled-part : f.last ≡ false → (n : ℕ) → n ≡ settled buf → PartOf buf (record { ok = f.ok; last = false; held = f.held; bytes = n })
+  pub settled-part : f.last ≡ false → (n : ℕ) → n ≡ settled buf → PartOf buf (record { last = false; held = f.held; bytes = n })
   settled-part e n is = record { within = h.within; ending = sym e ∙ h.ending; amount = is }
 
   -- what is held of it, all of it at the end of the file and before as much as is settled
@@ -37,7 +37,7 @@ module _ (buf : List ℕ) (f : Filled) (h : FilledIn buf f) where
   held_by true e = length-take-le f.held buf h.within
   held_by false e = rw (take_all f.held buf (omega (arith, filled-full e)))
 
-  pub filled-part : (n : ℕ) → n ≡ held_part f.last → PartOf buf (record { ok = f.ok; last = f.last; held = f.held; bytes = n })
+  pub filled-part : (n : ℕ) → n ≡ held_part f.last → PartOf buf (record { last = f.last; held = f.held; bytes = n })
   filled-part n is = record { within = h.within; ending = h.ending; amount = is ∙ held_by f.last refl }
 
 module _ (buf : List ℕ) (r : Part) (p : PartOf buf r) where

@@ -3,7 +3,7 @@
 use mathlib.Core.Path.{◌≡◌, refl}
 use mathlib.Core.List.{List, [], ◌∷◌, ◌++◌}
 use Prim.Native.Nat.{ℕ}
-use Rattle.opus_defines.specs.declared.Verdict.TheVariants.{Accepted}
+use Rattle.std.specs.Prelude.{Ok}
 use Rattle.capture.specs.Finding.{packet_length, packet_at, before, record_from, next_record}
 use Rattle.capture.specs.Reading.{record_bytes, readings_in, records_in, records_of, passed_in, passed_of}
 use Rattle.capture_window.specs.Window.{settled_in, settled}
@@ -31,9 +31,9 @@ unfolding parts_from settled settled_in packet_length
 in_parts = refl
 
 answers : streamed chunks
-    ≡ record { verdict = Accepted; line = 65; place = 0; length = 2; passed = 0 }
-    ∷ record { verdict = Accepted; line = 66; place = 7; length = 3; passed = 0 }
-    ∷ record { verdict = Accepted; line = 0; place = 16; length = 0; passed = 1 }
+    ≡ record { verdict = Ok tt; line = 65; place = 0; length = 2; passed = 0 }
+    ∷ record { verdict = Ok tt; line = 66; place = 7; length = 3; passed = 0 }
+    ∷ record { verdict = Ok tt; line = 0; place = 16; length = 0; passed = 1 }
     ∷ []
 unfolding parts_from settled settled_in answers_on answers_from readings_in next_record record_from before packet_length record_bytes
 answers = refl

@@ -11,7 +11,7 @@ use native.Mathlib.Nat.{zero-add, add-zero, add_assoc}
 use native.Mathlib.Omega.{arith}
 use lib.ListN.{length, drop, length-drop}
 use borrow.Author.Tests.{eq-eqb, ne_eqb}
-use Rattle.opus_defines.specs.declared.Verdict.TheVariants.{Accepted}
+use Rattle.std.specs.Prelude.{Ok}
 use Rattle.capture.specs.declared.NextRecord.{NextRecord}
 use Rattle.capture.specs.Finding.{packet_length, next_record}
 use Rattle.capture.specs.Reading.{readings}
@@ -83,7 +83,7 @@ Follows rest p base carried = answers_on base carried (readings p 0) (rest_on (b
 follows_nothing : (rest : List ℕ) (base carried : ℕ) → Follows rest [] base carried
 follows_nothing rest base carried =
     rw readings_nil
-    (on_end base (rest_on (base + 0) rest) carried (record { verdict = Accepted; line = 0; place = 0; length = 0; passed = 0 }) [] refl
+    (on_end base (rest_on (base + 0) rest) carried (record { verdict = Ok tt; line = 0; place = 0; length = 0; passed = 0 }) [] refl
     ∙ rw (add-zero base, add-zero carried))
 
 module _ (p rest : List ℕ) (f : packet_length p ≡ 0 → ⊥) (base carried : ℕ) where

@@ -1,6 +1,6 @@
 -- A file that comes in chunks, and the parts in which it is read (beyond document 02).
 use Rattle.std.specs.Prelude.{ℕ, ◌+◌, List, [], ◌∷◌, ◌++◌, cond, eqb, length, take, drop}
-use Rattle.opus_defines.specs.declared.Verdict.TheVariants.{Accepted}
+use Rattle.std.specs.Prelude.{Ok}
 use Rattle.capture.specs.Records.{Entry}
 use Rattle.capture.specs.Reading.{readings, records_of, passed_of}
 use Rattle.capture.specs.declared.NextRecord.{NextRecord}
@@ -44,7 +44,7 @@ answers_on base carried (a ∷ more) on =
     cond (eqb a.length 0) (on (carried + a.passed)) (in_file base carried a ∷ answers_on base 0 more on)
 
 unfoldable pub answers_from : ℕ → ℕ → List (List ℕ) → List NextRecord
-answers_from base carried [] = record { verdict = Accepted; line = 0; place = base; length = 0; passed = carried } ∷ []
+answers_from base carried [] = record { verdict = Ok tt; line = 0; place = base; length = 0; passed = carried } ∷ []
 answers_from base carried (p ∷ ps) = answers_on base carried (readings p 0) (λ k. answers_from (base + length p) k ps)
 
 abbrev pub streamed : List (List ℕ) → List NextRecord

@@ -16,14 +16,7 @@ pub const WINDOW: usize = 65540;
 pub fn short_from(held: usize, at: usize) -> usize
     ensures { result ≡ max at (held - 65539) }
 {
-    if held < WINDOW {
-        return at;
-    }
-    let q = held - (WINDOW - 1);
-    if q < at {
-        return at;
-    }
-    q
+    at.max(held.saturating_sub(WINDOW - 1))
 }
 
 // How many bytes at the front of what is held are settled: they can be read as a capture of their own, and what is behind them as one with what follows.

@@ -4,9 +4,7 @@
 fn main(rt: HostRuntime) {
     // One byte more than the longest capture: an input that fills the buffer is too long, whatever is behind it.
     let mut data = [0u8; 65537];
-    let input = stdio::read_all(&mut rt.stdin(), &mut data);
-    if input.ok {
-        let n = input.bytes;
+    if let Ok(n) = stdio::read_all(&mut rt.stdin(), &mut data) {
         captures_text::print(&data[..n]);
     }
 }

@@ -91,7 +91,7 @@ pub fn print(data: &[u8]) {
     let mut at: usize = 0;
     while at < data.len() {
         let l = put_lines(data, at, &mut out);
-        if !stdio::print(&out[..l.bytes]) {
+        if stdio::print(&out[..l.bytes]).is_err() {
             return;
         }
         at = l.next;

@@ -8,7 +8,7 @@
 use Rattle.std.proofs.Common.{◌≡◌, ℕ, ◌*◌, ◌<◌, ◌≤◌, Bool, true, false, ◌&&◌, eqb, leb, List, sym, refl, ◌∙◌, arith, eq-eqb, ne_eqb, eqb-true, le-leb, leb-true}
 use Rattle.laws.proofs.Never.{by_test}
 use Rattle.laws.proofs.Every.{both_left, both_right}
-use Rattle.opus_defines.specs.declared.Answer.TheVariants.{Number, Refused}
+use Rattle.std.specs.Prelude.{Err, Ok}
 use Rattle.opus_defines.specs.declared.Refusal.TheVariants.{InvalidState}
 use Rattle.opus_size.specs.Size.{most_bytes}
 use Rattle.opus_toc.specs.Toc.{upper_six, configuration, duration, samples}
@@ -126,10 +126,10 @@ sound-bare h len packet s = sym (framed-bare h len packet) ∙ sound-framed (col
 
 -- ---- the frames held, as a number
 module _ (rp : OpusRepacketizer) where
-  pub unsound_number : sound rp ≡ false → Refused InvalidState ≡ nb_frames_held rp
+  pub unsound_number : sound rp ≡ false → Err InvalidState ≡ nb_frames_held rp
   unfolding nb_frames_held
   unsound_number s = rw s
 
-  pub sound_number : sound rp ≡ true → Number rp.nb_frames ≡ nb_frames_held rp
+  pub sound_number : sound rp ≡ true → Ok rp.nb_frames ≡ nb_frames_held rp
   unfolding nb_frames_held
   sound_number s = rw s

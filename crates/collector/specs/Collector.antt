@@ -1,7 +1,7 @@
 -- The collector: what it holds, and when it is sound (document 01, 'Return numbers'; document 02, M-107).
+use Rattle.opus_defines.specs.declared.Refusal.{Refusal}
 use Rattle.std.specs.Prelude.{ℕ, ◌*◌, Bool, cond, ◌&&◌, ◌||◌, List, take, replicate, ◌==◌, nat_le}
-use Rattle.opus_defines.specs.declared.Answer.{Answer}
-use Rattle.opus_defines.specs.declared.Answer.TheVariants.{Number, Refused}
+use Rattle.std.specs.Prelude.{Err, Ok, Result}
 use Rattle.opus_defines.specs.declared.Refusal.TheVariants.{InvalidState}
 use Rattle.opus_size.specs.Size.{most_bytes}
 use Rattle.opus_toc.specs.Toc.{configuration, samples}
@@ -41,5 +41,5 @@ unfoldable pub sound : OpusRepacketizer → Bool
 sound rp = framed rp && numbered (held_numbers rp)
 
 -- `opus_repacketizer_get_nb_frames`
-unfoldable pub nb_frames_held : OpusRepacketizer → Answer
-nb_frames_held rp = cond (sound rp) (Number rp.nb_frames) (Refused InvalidState)
+unfoldable pub nb_frames_held : OpusRepacketizer → Result ℕ Refusal
+nb_frames_held rp = cond (sound rp) (Ok rp.nb_frames) (Err InvalidState)

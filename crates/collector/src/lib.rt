@@ -7,7 +7,7 @@ ghost use Rattle.opus_format.specs.Frames.{total};
 ghost use Rattle.collector.specs.Collector.{empty, sound, nb_frames_held};
 ghost use Rattle.collector.specs.Parts.{head_of, collector_of, unsoundly, head_fits, front_of, checked_held, checked};
 
-use opus_defines::{Answer, Refusal, wide};
+use opus_defines::{Refusal, wide};
 use opus_toc::Samples8k;
 
 // The least store, in bytes: 48 frames of 1275.
@@ -44,10 +44,8 @@ pub fn total_16(ns: &[u16]) -> u16
     ensures { result ≡ total ns.now % 65536 }
 {
     let mut sum: u16 = 0;
-    let mut i: usize = 0;
-    while i < ns.len() {
-        sum = std::num::wrapping_add_u16(sum, ns[i]);
-        i += 1;
+    for &n in ns {
+        sum = sum.wrapping_add(n);
     }
     sum
 }
@@ -180,14 +178,14 @@ pub fn is_sound(rp: OpusRepacketizer) -> bool
 }
 
 // The frames held.
-fn nb_frames_held(h: Head, len: &[u16; 48], packet: &[u8; 48]) -> Answer
+fn nb_frames_held(h: Head, len: &[u16; 48], packet: &[u8; 48]) -> Result<u16, Refusal>
     ensures { result ≡ nb_frames_held (collector_of h len.now packet.now) }
 {
     let c = check(h, len, packet);
     if !c.sound {
-        return Answer::Refused(Refusal::InvalidState);
+        return Err(Refusal::InvalidState);
     }
-    Answer::Number(h.nb_frames)
+    Ok(h.nb_frames)
 }
 
 // The same as a number.

@@ -11,7 +11,7 @@ use lib.ListN.{length}
 use lib.Dec.{ltb}
 use borrow.Author.Tests.{ltb-true, ltb-false}
 use Rattle.laws.proofs.Never.{by_test}
-use Rattle.opus_defines.specs.declared.Verdict.TheVariants.{Accepted}
+use Rattle.std.specs.Prelude.{Ok}
 use Rattle.capture.specs.Reading.{begins, readings}
 use Rattle.capture.specs.declared.NextRecord.{NextRecord}
 use Rattle.capture.proofs.Answers.{next_place_le}
@@ -66,7 +66,7 @@ module _ (s : List ℕ) (b : ℕ) where
 -- ---- an ample budget
 -- what is said where all is done
 abbrev pub done_all : List ℕ → Share
-done_all s = accounted (record { verdict = Accepted; line = 0; place = length s; length = 0; passed = 0 }) (whole s (readings s 0))
+done_all s = accounted (record { verdict = Ok tt; line = 0; place = length s; length = 0; passed = 0 }) (whole s (readings s 0))
 
 pub share_ample : (s : List ℕ) (b : ℕ) → length s ≤ b → share_of s b ≡ done_all s
 unfolding share_of

@@ -3,11 +3,10 @@
 // one line on standard output, the last word of which is `end`.
 #![tactic(auto)]
 
-ghost use Rattle.std.specs.Prelude.{◌≡◌, ◌+◌, ◌<◌, ◌≤◌, ◌^◌, min, length};
+ghost use Rattle.std.specs.Prelude.{◌≡◌, ◌+◌, ◌<◌, ◌≤◌, ◌^◌, length, IfOk};
 ghost use Rattle.compact.specs.Stream.{share_of, joined as Stream·joined, none as Stream·none};
 
 use compaction::Share;
-use opus_defines::Verdict;
 use show::STDERR_FILENO;
 use std::env::{Env, FillError};
 use std::io::Stdin;
@@ -21,11 +20,14 @@ const MOST: usize = 1152921504606846976;
 // Where the records go.
 const NEW_FILE: i32 = 3;
 
-// Whether what was to be written was, and the share that was made of a part.
+// Why a file was not compacted: a read failed when so many bytes had come, more came than are counted, the budget has no room for one record, or a write
+// failed.
 #[derive(Clone, Copy)]
-struct Put {
-    ok: bool,
-    share: Share,
+enum Failure {
+    Read(usize),
+    TooLong,
+    OverBudget,
+    Write,
 }
 
 fn count(label: &[u8], n: usize) {
@@ -43,34 +45,22 @@ fn report(s: Share) {
     show::text(b" end\n");
 }
 
-// A budget that stops before the end has done one record at least.
-fn stopped(s: Share) {
-    if s.records == 0 {
-        show::text(b"refused -21\n");
-    } else {
-        report(s);
+fn tell(failure: Failure) {
+    match failure {
+        Failure::Read(came) => stdio::tell_read_failed(came),
+        Failure::TooLong => stdio::tell_too_long(),
+        Failure::OverBudget => show::text(b"refused -21\n"),
+        Failure::Write => {
+            io::write_all(STDERR_FILENO, b"aveluafi: writing the new file failed\n");
+        }
     }
-}
-
-fn write_failed() {
-    io::write_all(STDERR_FILENO, b"aveluafi: writing the new file failed\n");
-}
-
-fn too_long() {
-    io::write_all(STDERR_FILENO, b"aveluafi: standard input is too long\n");
-}
-
-fn least(a: usize, b: usize) -> usize
-    ensures { result ≡ min a b }
-{
-    if a < b { a } else { b }
 }
 
 fn no_share() -> Share
     ensures { result ≡ Stream·none }
 {
     Share {
-        verdict: Verdict::Accepted,
+        verdict: Ok(()),
         resume: 0,
         records: 0,
         written: 0,
@@ -86,7 +76,7 @@ fn joined(a: Share, b: Share) -> Share
     ensures { result ≡ Stream·joined a b }
 {
     Share {
-        verdict: Verdict::Accepted,
+        verdict: Ok(()),
         resume: a.resume + b.resume,
         records: a.records + b.records,
         written: a.written + b.written,
@@ -96,18 +86,21 @@ fn joined(a: Share, b: Share) -> Share
 }
 
 // Makes the share of a part, and writes it. A part is never longer than the room, so that a budget above that holds all of it.
-fn put_part(data: &[u8], budget: usize) -> Put
+fn put_part(data: &[u8], budget: usize) -> Result<Share, Failure>
     requires { length «data».now ≤ 262144 }
-    ensures { result.share ≡ share_of «data».now budget }
+    ensures { IfOk result (λ s. s ≡ share_of «data».now budget) }
 {
     let mut out = [0u8; ROOM];
-    let share = compaction::share_from(data, 0, &mut out, least(budget, ROOM));
+    let share = compaction::share_from(data, 0, &mut out, budget.min(ROOM));
     let n = share.written;
-    let ok = io::write_all(NEW_FILE, &out[..n]);
-    Put { ok, share }
+    if io::write_all(NEW_FILE, &out[..n]) {
+        return Ok(share);
+    }
+    Err(Failure::Write)
 }
 
-fn compact(from: &mut Stdin, buf: &mut [u8], budget: usize)
+// The share of the whole file. A budget that stops before the end has done one record at least.
+fn compact(from: &mut Stdin, buf: &mut [u8], budget: usize) -> Result<Share, Failure>
     requires { length buf.old ≡ 262144 }
 {
     let mut all = no_share();
@@ -115,57 +108,48 @@ fn compact(from: &mut Stdin, buf: &mut [u8], budget: usize)
     let mut done: usize = 0;
     let mut held: usize = 0;
     while done < MOST {
-        let p = capture_parts::read_part(from, buf, held);
+        let p = match capture_parts::read_part(from, buf, held) {
+            Ok(part) => part,
+            Err(failed) => return Err(Failure::Read(done + failed.held)),
+        };
         let n = p.bytes;
-        let there = p.held;
-        if !p.ok {
-            stdio::tell_read_failed(done + there);
-            return;
-        }
-        let q = put_part(&buf[..n], left);
-        let s = q.share;
-        if !q.ok {
-            write_failed();
-            return;
-        }
+        let s = put_part(&buf[..n], left)?;
         all = joined(all, s);
         left -= s.written;
         if s.resume < n {
-            stopped(all);
-            return;
+            return if all.records == 0 {
+                Err(Failure::OverBudget)
+            } else {
+                Ok(all)
+            };
         }
         if p.last {
-            report(all);
-            return;
+            return Ok(all);
         }
         done += n;
-        held = capture_parts::keep_rest(buf, there, n);
+        held = capture_parts::keep_rest(buf, p.held, n);
     }
-    too_long();
+    Err(Failure::TooLong)
 }
 
 // The budget that the first word names; without one there is no bound, and what is not a number of at most 18 digits is none.
-fn budget<R: Env>(rt: &R) -> words::Number {
+fn budget<R: Env>(rt: &R) -> Option<usize> {
     let mut text = [0u8; 32];
     match rt.arg(1, &mut text) {
         Ok(n) => words::decimal(&text[..n]),
-        Err(FillError::NotPresent) => words::Number {
-            ok: true,
-            value: MOST,
-        },
-        Err(_) => words::Number {
-            ok: false,
-            value: 0,
-        },
+        Err(FillError::NotPresent) => Some(MOST),
+        Err(_) => None,
     }
 }
 
 fn main(rt: HostRuntime) {
-    let b = budget(&rt);
-    if !b.ok {
+    let Some(budget) = budget(&rt) else {
         show::text(b"refused -1\n");
         return;
-    }
+    };
     let mut buf = [0u8; ROOM];
-    compact(&mut rt.stdin(), &mut buf, b.value);
+    match compact(&mut rt.stdin(), &mut buf, budget) {
+        Ok(share) => report(share),
+        Err(failure) => tell(failure),
+    }
 }

@@ -9,7 +9,7 @@ use mathlib.Core.List.{List, [], ◌∷◌, ◌++◌, append_assoc, map}
 use lib.ListN.{length, length-append}
 use lib.Seq.{sets}
 use Rattle.laws.specs.Bytes.{Bytes}
-use Rattle.opus_defines.specs.declared.Verdict.TheVariants.{Accepted}
+use Rattle.std.specs.Prelude.{Ok}
 use Rattle.capture.specs.Records.{Entry, written, file_of, HoldAll}
 use Rattle.capture.specs.Reading.{readings, answers_for, entry_of, entries, records_in}
 use Rattle.capture.specs.declared.NextRecord.{NextRecord}
@@ -45,10 +45,10 @@ whole_from : (p : List ℕ) (es : List Entry) → HoldAll es → Settled es
     → whole (p ++ file_of es) (answers_for (length p) es)
     ≡ record { records = length es; written = length (file_of es); reclaimed = 0; passed = 0 }
 whole_from p [] h k =
-    let a : NextRecord = record { verdict = Accepted; line = 0; place = length p; length = 0; passed = 0 } in
+    let a : NextRecord = record { verdict = Ok tt; line = 0; place = length p; length = 0; passed = 0 } in
     rw (file_none, answers_none (length p)) (whole_none (p ++ []) a [] refl ∙ rw (whole_end (p ++ [])))
 whole_from p (e ∷ es) h k =
-    let a : NextRecord = record { verdict = Accepted; line = e.line; place = length p; length = length e.packet; passed = 0 } in
+    let a : NextRecord = record { verdict = Ok tt; line = e.line; place = length p; length = length e.packet; passed = 0 } in
     let s = p ++ (written e ++ file_of es) in
     let some : length e.packet ≡ 0 → ⊥ = λ z. omega (arith, h.0.some) in
     let place : length p + (5 + length e.packet) ≡ length (p ++ written e) = omega (arith, length-append p (written e), written-length e) in
@@ -73,7 +73,7 @@ module _ (es : List Entry) (h : HoldAll es) (k : Settled es) where
   pub file_again : (room budget : ℕ) → length (file_of es) ≤ budget → budget ≤ room
       → let n = night (file_of es) 0 room budget in
       (share (file_of es) n
-      ≡ record { verdict = Accepted; resume = length (file_of es); records = length es; written = length (file_of es); reclaimed = 0; passed = 0 })
+      ≡ record { verdict = Ok tt; resume = length (file_of es); records = length es; written = length (file_of es); reclaimed = 0; passed = 0 })
       × ((dst : List ℕ) → leaves (file_of es) dst n ≡ sets dst 0 (file_of es))
   file_again room budget fits roomy =
       let s = file_of es in

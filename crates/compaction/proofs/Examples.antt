@@ -6,7 +6,7 @@ use mathlib.Core.Path.{◌≡◌, refl}
 use mathlib.Core.List.{List, [], ◌∷◌}
 use lib.ListN.{replicate}
 use Rattle.opus_defines.specs.declared.Refusal.TheVariants.{BadArg, BufferTooSmall, OverBudget}
-use Rattle.opus_defines.specs.declared.Verdict.TheVariants.{Accepted}
+use Rattle.std.specs.Prelude.{Ok}
 use Rattle.opus_size.specs.Size.{length_field}
 use Rattle.opus_toc.specs.Toc.{duration}
 use Rattle.opus_format.specs.Reading.{read}
@@ -29,7 +29,7 @@ capture =
 
 -- resume place, records, written, reclaimed, passed over
 abbrev did : ℕ → ℕ → ℕ → ℕ → ℕ → Share
-did r n w c p = record { verdict = Accepted; resume = r; records = n; written = w; reclaimed = c; passed = p }
+did r n w c p = record { verdict = Ok tt; resume = r; records = n; written = w; reclaimed = c; passed = p }
 
 -- a call into so many bytes of 238
 abbrev answer : ℕ → ℕ → ℕ → Share

@@ -14,7 +14,7 @@ use lib.ListN.{length, get_or, drop, length-append}
 use lib.Seq.{drop-append_seam}
 use Rattle.laws.specs.Bytes.{Bytes}
 use Rattle.blocks.specs.Blocks.{part}
-use Rattle.opus_defines.specs.declared.Verdict.TheVariants.{Accepted}
+use Rattle.std.specs.Prelude.{Ok}
 use Rattle.opus_format.specs.Frames.{lengths, cut}
 use Rattle.opus_format.specs.Reading.{Reading, refused, accepted, read}
 use Rattle.capture.specs.Records.{Entry, Holds, written, file_of, HoldAll}
@@ -108,9 +108,9 @@ module _ (p : List ℕ) (e : Entry) (rest : List ℕ) where
 
 entries_from : (p : List ℕ) (es : List Entry) → HoldAll es → entries (p ++ file_of es) (records_in (answers_for (length p) es)) ≡ es
 entries_from p [] h =
-    rw (answers_none (length p), records_none (record { verdict = Accepted; line = 0; place = length p; length = 0; passed = 0 }) [] refl, records_end)
+    rw (answers_none (length p), records_none (record { verdict = Ok tt; line = 0; place = length p; length = 0; passed = 0 }) [] refl, records_end)
 entries_from p (e ∷ es) h =
-    let a : NextRecord = record { verdict = Accepted; line = e.line; place = length p; length = length e.packet; passed = 0 } in
+    let a : NextRecord = record { verdict = Ok tt; line = e.line; place = length p; length = length e.packet; passed = 0 } in
     let some : length e.packet ≡ 0 → ⊥ = λ z. omega (arith, h.0.some) in
     let place : length p + (5 + length e.packet) ≡ length (p ++ written e) = omega (arith, length-append p (written e), written-length e) in
     let first : entry_of (p ++ (written e ++ file_of es)) a ≡ e = rw (packet_back p e (file_of es)) in

@@ -22,7 +22,7 @@ use Rattle.capture.proofs.Steps.{readings_end}
 use Rattle.capture.proofs.Resuming.{splits_before}
 use Rattle.capture.proofs.Held.{records_none, records_one, records_end}
 use Rattle.compaction.specs.Account.{output, Account, account}
-use Rattle.opus_defines.specs.declared.Verdict.TheVariants.{Accepted}
+use Rattle.std.specs.Prelude.{Ok}
 use Rattle.compaction.specs.Share.{done, stop, does, stopping, night, share, leaves}
 use Rattle.compaction.specs.Nights.{together, Nights, over, next}
 use Rattle.compaction.proofs.Nights.{done_splits, stop_splits, stop_is_end, night_past, night-short, night-within}
@@ -168,7 +168,7 @@ module _ (s : List ℕ) (start room budget : ℕ) (h : start ≤ length s) (k : 
   pub one_share : (j : Account) → whole s (readings s start) ≡ j
       → share s (night s start room budget)
       ≡ record {
-        verdict = Accepted;
+        verdict = Ok tt;
         resume = length s;
         records = j.records;
         written = j.written;

@@ -10,7 +10,7 @@ use Rattle.laws.specs.Bytes.{Bytes}
 use Rattle.blocks.proofs.Sets.{take-sets, drop-sets_past}
 use Rattle.opus_defines.specs.declared.Refusal.{Refusal}
 use Rattle.opus_defines.specs.declared.Refusal.TheVariants.{BadArg, BufferTooSmall, OverBudget}
-use Rattle.opus_defines.specs.declared.Verdict.TheVariants.{Accepted, Refused}
+use Rattle.std.specs.Prelude.{Err, Ok}
 use Rattle.capture.specs.Records.{HoldAll}
 use Rattle.capture.specs.Finding.{next_record}
 use Rattle.capture.specs.Reading.{readings, answers_for, entry_of, entries, records_in}
@@ -109,7 +109,7 @@ module _ (s : List ℕ) (start room budget : ℕ) where
       pub again_changes_nothing : let out = output s ds in
           (room' budget' : ℕ) → length out ≤ budget' → budget' ≤ room' → let n = night out 0 room' budget' in
           (share out n
-          ≡ record { verdict = Accepted; resume = length out; records = length ds; written = length out; reclaimed = 0; passed = 0 })
+          ≡ record { verdict = Ok tt; resume = length out; records = length ds; written = length out; reclaimed = 0; passed = 0 })
           × ((dst : List ℕ) → leaves out dst n ≡ sets dst 0 out)
       again_changes_nothing room' budget' fits roomy =
           let k = file_again (map rewritten (entries s ds)) holds (settled s bytes ds) room' budget' fits roomy in
@@ -118,7 +118,7 @@ module _ (s : List ℕ) (start room budget : ℕ) where
 
   -- 8. A refusal changes nothing, and beside it stand zeros.
   pub refused_changes_nothing : (e : Refusal) → night s start room budget ≡ refuses e
-      → (share s (night s start room budget) ≡ record { verdict = Refused e; resume = 0; records = 0; written = 0; reclaimed = 0; passed = 0 })
+      → (share s (night s start room budget) ≡ record { verdict = Err e; resume = 0; records = 0; written = 0; reclaimed = 0; passed = 0 })
       × ((dst : List ℕ) → leaves s dst (night s start room budget) ≡ dst)
   refused_changes_nothing e q = rw q (refl, λ dst. refl)
 
@@ -128,7 +128,7 @@ module _ (s : List ℕ) (start : ℕ) (out : List ℕ) (k : Account) (nights : N
   pub nights_are_one : (room budget : ℕ) → length out ≤ budget → budget ≤ room → let n = night s start room budget in
       (share s n
       ≡ record {
-        verdict = Accepted;
+        verdict = Ok tt;
         resume = length s;
         records = k.records;
         written = k.written;

@@ -4,7 +4,7 @@ use Rattle.std.proofs.lemmas.List.Edits.{sets}
 use Rattle.opus_defines.specs.Numbers.{verdict_number}
 use Rattle.opus_defines.specs.declared.Refusal.{Refusal}
 use Rattle.opus_defines.specs.declared.Refusal.TheVariants.{BadArg, BufferTooSmall, OverBudget}
-use Rattle.opus_defines.specs.declared.Verdict.TheVariants.{Accepted, Refused}
+use Rattle.std.specs.Prelude.{Err, Ok}
 use Rattle.capture.specs.Reading.{readings}
 use Rattle.capture.specs.declared.NextRecord.{NextRecord}
 use Rattle.compaction.specs.Account.{size, output, Account, account}
@@ -21,7 +21,7 @@ done s left (a ∷ more) = cond (fits s left a) (a ∷ done s (left - size s a) 
 
 -- and the first answer that is not done; behind the last answer stands the end
 unfoldable pub stop : List ℕ → ℕ → List NextRecord → NextRecord
-stop s left [] = record { verdict = Accepted; line = 0; place = length s; length = 0; passed = 0 }
+stop s left [] = record { verdict = Ok tt; line = 0; place = length s; length = 0; passed = 0 }
 stop s left (a ∷ more) = cond (fits s left a) (stop s (left - size s a) more) a
 
 -- what a call does: it refuses, or it does these records and stops at that answer
@@ -44,7 +44,7 @@ night s start room budget =
 abbrev pub accounted : NextRecord → Account → Share
 accounted a k =
     record {
-      verdict = Accepted;
+      verdict = Ok tt;
       resume = a.place;
       records = k.records;
       written = k.written;
@@ -53,7 +53,7 @@ accounted a k =
     }
 
 abbrev pub no_share : Refusal → Share
-no_share e = record { verdict = Refused e; resume = 0; records = 0; written = 0; reclaimed = 0; passed = 0 }
+no_share e = record { verdict = Err e; resume = 0; records = 0; written = 0; reclaimed = 0; passed = 0 }
 
 abbrev pub share : List ℕ → Night → Share
 share s (refuses e) = no_share e

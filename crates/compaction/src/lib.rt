@@ -11,7 +11,7 @@ ghost use Rattle.compaction.specs.Share.{done, stop, night, accounted, no_share,
 ghost use Rattle.compaction.specs.Parts.{head_of, entry_at, put_of, Runs, stops_at};
 
 use capture::HEAD_BYTES;
-use opus_defines::{Refusal, Verdict};
+use opus_defines::Refusal;
 use spelling::Spelling;
 
 // Records that stay as they are are copied as one block once they are so many bytes together: few enough that what was looked at is still near when it is
@@ -22,7 +22,7 @@ const RUN_BYTES: usize = 1024;
 // zeros beside a refusal.
 #[derive(Clone, Copy)]
 pub struct Share {
-    pub verdict: Verdict,
+    pub verdict: Result<(), Refusal>,
     pub resume: usize,
     pub records: usize,
     pub written: usize,
@@ -156,7 +156,7 @@ fn stopped(start: usize, place: usize, records: usize, written: usize, passed: u
     ensures { result ≡ stops_at start place records written passed }
 {
     Share {
-        verdict: Verdict::Accepted,
+        verdict: Ok(()),
         resume: place,
         records,
         written,
@@ -170,7 +170,7 @@ fn no_share(e: Refusal) -> Share
     ensures { result ≡ no_share e }
 {
     Share {
-        verdict: Verdict::Refused(e),
+        verdict: Err(e),
         resume: 0,
         records: 0,
         written: 0,

@@ -21,7 +21,7 @@ use Rattle.opus_defines.specs.Numbers.{count_of}
 use Rattle.opus_defines.specs.Outcome.{Effect, refusal, wrote, written, leaves}
 use Rattle.opus_defines.specs.declared.Refusal.{Refusal}
 use Rattle.opus_defines.specs.declared.Refusal.TheVariants.{BadArg, BufferTooSmall}
-use Rattle.opus_defines.specs.declared.Count.TheVariants.{Negative}
+use Rattle.std.specs.Prelude.{None}
 use Rattle.opus_toc.specs.Toc.{upper_six}
 use Rattle.opus_format.specs.Frames.{total}
 use Rattle.opus_header.specs.Compact.{compact}
@@ -66,11 +66,11 @@ module _ (six : ℕ) (frames : List (List ℕ)) (room : ℕ) where
   effect_passed {begin} {end} f g dst h = rw (to_z-of_z w32 begin f, to_z-of_z w32 end g) at h
 
   -- ---- no range of these frames
-  pub effect_before : (begin end : ℤ) → count_of begin ≡ Negative → out_frames false false six frames begin end room ≡ refusal BadArg
+  pub effect_before : (begin end : ℤ) → count_of begin ≡ None → out_frames false false six frames begin end room ≡ refusal BadArg
   effect_before (pos b) end e = never (cc)
   effect_before (negsuc b) end e = refl
 
-  pub effect_under : (begin end : ℤ) → count_of end ≡ Negative → out_frames false false six frames begin end room ≡ refusal BadArg
+  pub effect_under : (begin end : ℤ) → count_of end ≡ None → out_frames false false six frames begin end room ≡ refusal BadArg
   effect_under (negsuc b) end e = refl
   effect_under (pos b) (pos n) e = never (cc)
   effect_under (pos b) (negsuc n) e = refl

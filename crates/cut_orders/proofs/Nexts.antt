@@ -13,10 +13,8 @@ use lib.ListN.{length, length-append}
 use Rattle.laws.proofs.Never.{never}
 use Rattle.opus_defines.specs.Numbers.{refusal_number, number_of, count_of}
 use Rattle.opus_defines.specs.Outcome.{Effect, refusal, wrote, leaves}
-use Rattle.opus_defines.specs.declared.Answer.{Answer}
-use Rattle.opus_defines.specs.declared.Answer.TheVariants.{Number, Refused}
+use Rattle.std.specs.Prelude.{Err, None, Ok, Result}
 use Rattle.opus_defines.specs.declared.Refusal.{Refusal}
-use Rattle.opus_defines.specs.declared.Count.TheVariants.{Negative}
 use Rattle.opus_defines.proofs.Outcomes.{refusal-not}
 use Rattle.repacketizer_out.specs.Output.{out_frames}
 use Rattle.cut_orders.specs.declared.OrderReport.{OrderReport}
@@ -29,12 +27,12 @@ number_of_lem e = ap (λ (r : OrderReport). r.number) e
 
 -- ---- one packet more
 behind_stops : (ls bs dst : List ℕ) (x : Effect) (e : Refusal) (i : ℕ) → length ls ≡ i → refusal_number e ≡ (leaves dst x).report.number
-    → reported (Refused e) (i + 1) ≡ order_report (behind ls bs x)
+    → reported (Err e) (i + 1) ≡ order_report (behind ls bs x)
 behind_stops ls bs dst (refusal f) e i l h = rw (l, h)
 behind_stops ls bs dst (wrote n vs) e i l h = absurd (refusal-not e h)
 
 behind_goes : (room : ℕ) (ls bs dst : List ℕ) (x : Effect) → Whole room x → (n t : ℕ) → t ≡ length bs → pos n ≡ (leaves dst x).report.number
-    → reported (Number (t + n)) 0 ≡ order_report (behind ls bs x)
+    → reported (Ok (t + n)) 0 ≡ order_report (behind ls bs x)
 behind_goes room ls bs dst x (stopped e) n t b h = absurd (refusal-not e (sym h))
 behind_goes room ls bs dst x (put vs k) n t b h =
     let m : n ≡ length vs = cc in
@@ -43,13 +41,13 @@ behind_goes room ls bs dst x (put vs k) n t b h =
 
 -- ---- by the cutting so far
 module _ (six : ℕ) (frames : List (List ℕ)) (room : ℕ) (begin end : ℤ) (m : OrderReport) where
-  pub next_refused : (c : Cutting) → m ≡ order_report c → count_of m.number ≡ Negative → m ≡ order_report (next six frames room begin end c)
+  pub next_refused : (c : Cutting) → m ≡ order_report c → count_of m.number ≡ None → m ≡ order_report (next six frames room begin end c)
   next_refused (refused_at p e) h k = h
   next_refused (cut_into ls bs) h k = never (let n = number_of_lem h in cc)
 
   module _ (t : ℕ) (used : m.number ≡ pos t) (dst : List ℕ) where
-    module _ (a : Answer) (g : number_of a ≡ (leaves dst (out_frames false false six frames begin end (room - t))).report.number) where
-      pub next_stops : (c : Cutting) → m ≡ order_report c → (e : Refusal) → a ≡ Refused e → (i : ℕ) → done c ≡ i
+    module _ (a : Result ℕ Refusal) (g : number_of a ≡ (leaves dst (out_frames false false six frames begin end (room - t))).report.number) where
+      pub next_stops : (c : Cutting) → m ≡ order_report c → (e : Refusal) → a ≡ Err e → (i : ℕ) → done c ≡ i
           → reported a (i + 1) ≡ order_report (next six frames room begin end c)
       next_stops (refused_at p f) h e q i d = absurd (refusal-not f (sym (number_of_lem h) ∙ used))
       next_stops (cut_into ls bs) h e q i d =
@@ -57,8 +55,8 @@ module _ (six : ℕ) (frames : List (List ℕ)) (room : ℕ) (begin end : ℤ) (
           let says : refusal_number e ≡ (leaves dst (out_frames false false six frames begin end (room - t))).report.number = sym (ap number_of q) ∙ g in
           rw q (behind_stops ls bs dst (out_frames false false six frames begin end (room - length bs)) e i d (rw (← same) says))
 
-      pub next_goes : (c : Cutting) → m ≡ order_report c → (n : ℕ) → a ≡ Number n → {w : ℕ} → w ≡ n
-          → reported (Number (t + w)) 0 ≡ order_report (next six frames room begin end c)
+      pub next_goes : (c : Cutting) → m ≡ order_report c → (n : ℕ) → a ≡ Ok n → {w : ℕ} → w ≡ n
+          → reported (Ok (t + w)) 0 ≡ order_report (next six frames room begin end c)
       next_goes (refused_at p f) h n q v = absurd (refusal-not f (sym (number_of_lem h) ∙ used))
       next_goes (cut_into ls bs) h n q v =
           let same : t ≡ length bs = cc in
@@ -71,5 +69,5 @@ module _ (six : ℕ) (frames : List (List ℕ)) (room : ℕ) (begin end : ℤ) (
 pub natural_most : {z : ℤ} {t room : ℕ} → z ≡ pos t → natural z ≤ room → t ≤ room
 natural_most {room = room} e h = subst (λ (y : ℤ). natural y ≤ room) e h
 
-pub number_most : {a : Answer} {n room : ℕ} → a ≡ Number n → natural (number_of a) ≤ room → n ≤ room
-number_most {room = room} e h = subst (λ (b : Answer). natural (number_of b) ≤ room) e h
+pub number_most : {a : Result ℕ Refusal} {n room : ℕ} → a ≡ Ok n → natural (number_of a) ≤ room → n ≤ room
+number_most {room = room} e h = subst (λ (b : Result ℕ Refusal). natural (number_of b) ≤ room) e h

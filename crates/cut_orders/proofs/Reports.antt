@@ -12,8 +12,8 @@ use borrow.Author.Tests.{lt-ltb, le-ltb}
 use Rattle.laws.proofs.Never.{never}
 use Rattle.opus_defines.specs.Bounds.{most_packet}
 use Rattle.opus_defines.specs.Numbers.{number_of, count_of}
-use Rattle.opus_defines.specs.declared.Answer.{Answer}
-use Rattle.opus_defines.specs.declared.Count.TheVariants.{Is, Negative}
+use Rattle.opus_defines.specs.declared.Refusal.{Refusal}
+use Rattle.std.specs.Prelude.{None, Result, Some}
 use Rattle.opus_defines.specs.declared.Refusal.TheVariants.{BadArg, InvalidState}
 use Rattle.collector.specs.declared.OpusRepacketizer.{OpusRepacketizer}
 use Rattle.collector.specs.Collector.{least_store, sound}
@@ -21,18 +21,18 @@ use Rattle.cut_orders.specs.declared.OrderReport.{OrderReport}
 use Rattle.cut_orders.specs.Orders.{refused_at, cut_into, begun, most_orders, turns}
 
 -- ---- the report of an answer
-abbrev pub reported : Answer → ℕ → OrderReport
+abbrev pub reported : Result ℕ Refusal → ℕ → OrderReport
 reported a p = record { number = number_of a; position = p }
 
-pub report_is : {n : ℤ} (a : Answer) (p : ℕ) → n ≡ number_of a → record { number = n; position = p } ≡ reported a p
+pub report_is : {n : ℤ} (a : Result ℕ Refusal) (p : ℕ) → n ≡ number_of a → record { number = n; position = p } ≡ reported a p
 report_is a p e = λ i. record { number = e i; position = p }
 
 -- ---- how many orders are gone through
-pub turns-none : (z : ℤ) (n : ℕ) → count_of z ≡ Negative → 0 ≡ turns z n
+pub turns-none : (z : ℤ) (n : ℕ) → count_of z ≡ None → 0 ≡ turns z n
 turns-none (pos t) n e = never (cc)
 turns-none (negsuc t) n e = refl
 
-pub turns-all : (z : ℤ) (n t : ℕ) → count_of z ≡ Is t → n ≡ turns z n
+pub turns-all : (z : ℤ) (n t : ℕ) → count_of z ≡ Some t → n ≡ turns z n
 turns-all (pos t) n u e = refl
 turns-all (negsuc t) n u e = never (cc)
 

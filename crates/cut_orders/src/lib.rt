@@ -14,7 +14,7 @@ ghost use Rattle.repacketizer_out.specs.Output.{range, out_frames};
 ghost use Rattle.cut_orders.specs.Orders.{Cutting, begun, order_report, next, turns, done, natural, out_many};
 
 use collector::Head;
-use opus_defines::{Answer, Count, Refusal, wide};
+use opus_defines::{Refusal, wide};
 
 // The most orders of one call: a collector holds no more frames.
 pub const MOST_ORDERS: usize = 48;
@@ -37,7 +37,7 @@ pub struct OrderReport {
     pub position: u32,
 }
 
-fn order_report(a: Answer, position: usize) -> OrderReport
+fn order_report(a: Result<u16, Refusal>, position: usize) -> OrderReport
     requires { position ≤ 48 }
     ensures { result ≡ record { number = number_of a; position = position } }
 {
@@ -55,24 +55,24 @@ fn guard(
     store: usize,
     room: usize,
     orders: usize,
-) -> Answer
+) -> Result<u16, Refusal>
     ensures { order_report (begun (collector_of h len.now packet.now) store room orders)
         ≡ record { number = number_of result; position = 0 } }
 {
     let c = collector::check(h, len, packet);
     if !c.sound {
-        return Answer::Refused(Refusal::InvalidState);
+        return Err(Refusal::InvalidState);
     }
     if store < collector::LEAST_STORE {
-        return Answer::Refused(Refusal::BadArg);
+        return Err(Refusal::BadArg);
     }
     if opus::MOST_PACKET < room {
-        return Answer::Refused(Refusal::BadArg);
+        return Err(Refusal::BadArg);
     }
     if MOST_ORDERS < orders {
-        return Answer::Refused(Refusal::BadArg);
+        return Err(Refusal::BadArg);
     }
-    Answer::Number(0)
+    Ok(0)
 }
 
 // The same as the report of a call that has done no order yet.
@@ -90,31 +90,31 @@ fn begin_orders(
 }
 
 // What the output of a range into so much room would answer, with any store. Nothing is written.
-fn need_of(h: Head, len: &[u16], begin: i32, end: i32, room: usize) -> Answer
+fn need_of(h: Head, len: &[u16], begin: i32, end: i32, room: usize) -> Result<u16, Refusal>
     requires { (length len.now ≡ 48) × (framed (bare h len.now) ≡ true) × (room ≤ 65535) }
     ensures most { natural (number_of result) ≤ room }
     ensures number { (store dst : List ℕ) → least_store ≤ length store
         → number_of result
         ≡ (leaves dst (out_frames false false (upper_six h.toc) (held (bare h len.now) store) begin end room)).report.number }
 {
-    let Count::Is(b) = opus_defines::count_of(begin) else {
-        return Answer::Refused(Refusal::BadArg);
+    let Some(b) = opus_defines::count_of(begin) else {
+        return Err(Refusal::BadArg);
     };
-    let Count::Is(e) = opus_defines::count_of(end) else {
-        return Answer::Refused(Refusal::BadArg);
+    let Some(e) = opus_defines::count_of(end) else {
+        return Err(Refusal::BadArg);
     };
     if e <= b {
-        return Answer::Refused(Refusal::BadArg);
+        return Err(Refusal::BadArg);
     }
     if wide(h.nb_frames) < e {
-        return Answer::Refused(Refusal::BadArg);
+        return Err(Refusal::BadArg);
     }
     let m = opus_header::sums_of(&len[b..e]);
     let need = opus_header::compact_bytes(e - b, m, false);
     if room < need {
-        return Answer::Refused(Refusal::BufferTooSmall);
+        return Err(Refusal::BufferTooSmall);
     }
-    Answer::Number(need as u16)
+    Ok(need as u16)
 }
 
 // One order more, which is number i from 0: it is measured into what the destination has left, but a call that is refused stays so.
@@ -133,21 +133,21 @@ fn next_order(
         → ((t : ℕ) → m.number ≡ pos t → done c ≡ i)
         → result ≡ order_report (next (upper_six h.toc) (held (bare h len.now) store) room begin end c) }
 {
-    let Count::Is(used) = opus_defines::count_of(m.number) else {
+    let Some(used) = opus_defines::count_of(m.number) else {
         return m;
     };
     let a = need_of(h, len, begin, end, room - used);
-    let Answer::Number(n) = a else {
+    let Ok(n) = a else {
         return order_report(a, i + 1);
     };
-    order_report(Answer::Number((used + wide(n)) as u16), 0)
+    order_report(Ok((used + wide(n)) as u16), 0)
 }
 
 // How many of n orders are to be gone through.
 fn turns_of(m: OrderReport, n: usize) -> usize
     ensures { result ≡ turns m.number n }
 {
-    let Count::Is(_) = opus_defines::count_of(m.number) else {
+    let Some(_) = opus_defines::count_of(m.number) else {
         return 0;
     };
     n
@@ -223,19 +223,15 @@ pub fn out_many_lent(
     let room = data.len();
     let mut m = begin_orders(h, len, packet, store.len(), room, orders.len());
     let n = turns_of(m, orders.len());
-    let mut i: usize = 0;
-    while i < n {
+    for i in 0..n {
         m = next_order(m, h, len, orders[i].begin, orders[i].end, room, i);
-        i += 1;
     }
     let all = turns_of(m, n);
-    let mut k: usize = 0;
     let mut at: u32 = 0;
-    while k < all {
+    for k in 0..all {
         let l = put_order(h, len, store, orders[k].begin, orders[k].end, data, at);
         orders[k].length = l;
         at += l;
-        k += 1;
     }
     m
 }

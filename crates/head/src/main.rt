@@ -4,9 +4,7 @@
 fn main(rt: HostRuntime) {
     // One byte more than the longest header of version 1, and the fields of the other versions stand in no more: what is behind changes no answer.
     let mut data = [0u8; 277];
-    let input = stdio::read_all(&mut rt.stdin(), &mut data);
-    if input.ok {
-        let n = input.bytes;
+    if let Ok(n) = stdio::read_all(&mut rt.stdin(), &mut data) {
         head_text::print(&data[..n]);
     }
 }

@@ -1,8 +1,7 @@
 -- Which text the header has, by the reader's answer.
 --     text_read, text_refused      what it is
 --     text_same, texts, texts_most     by answers that are the same; by every answer, and how long it is
---     said                         the bytes and their count, for a text that it is
---     refused_room, said_refused     the same for a refusal, whose number is passed on
+--     number_is                    a refusal's number as it is passed on
 -- Assumes nothing.
 use Prim.Native.Nat.{ℕ, ◌≤◌}
 use native.Mathlib.Omega.{arith}
@@ -11,31 +10,28 @@ use mathlib.Core.List.{List}
 use mathlib.Core.Logic.{◌⊎◌, inl, inr}
 use lib.IntN.{ℤ, negsuc}
 use lib.ListN.{length}
-use lib.Seq.{sets}
 use mir.Syntax.{w32}
 use mir.Val.{to_z, of_z}
-use Rattle.io.specs.Counts.{IsPrefixLen}
 use Rattle.opus_defines.specs.Numbers.{refusal_number}
 use Rattle.opus_defines.specs.declared.Refusal.{Refusal}
 use Rattle.opus_defines.specs.declared.Refusal.TheVariants.{BadHeader, UnknownVersion, BadField}
-use Rattle.opus_defines.specs.declared.Verdict.TheVariants.{Accepted, Refused}
+use Rattle.std.specs.Prelude.{Err, Ok}
 use Rattle.opus_defines.proofs.Others.{refusal_passed}
 use Rattle.opus_head.specs.Heads.{InRange}
 use Rattle.opus_head.specs.Reading.{no_head, a_head, head_read}
 use Rattle.opus_head.specs.declared.HeadRead.{HeadRead}
 use Rattle.opus_head.specs.declared.OpusHead.{OpusHead}
 use Rattle.show.specs.Text.{refusal}
-use Rattle.show.proofs.Laid.{front_counts}
 use Rattle.show.proofs.Refusals.{refusal_most}
 use Rattle.head_text.specs.Text.{head_lines, head_text}
 use Rattle.head_text.proofs.Room.{lines_most}
 
 module _ (s : List ℕ) (r : HeadRead) (e : r ≡ head_read s) where
-  pub text_read : r.verdict ≡ Accepted → head_text s ≡ head_lines r.head
+  pub text_read : r.verdict ≡ Ok tt → head_text s ≡ head_lines r.head
   unfolding head_text
   text_read v = rw (← e, v)
 
-  pub text_refused : (x : Refusal) → r.verdict ≡ Refused x → head_text s ≡ refusal (refusal_number x)
+  pub text_refused : (x : Refusal) → r.verdict ≡ Err x → head_text s ≡ refusal (refusal_number x)
   unfolding head_text
   text_refused x v = rw (← e, v)
 
@@ -69,24 +65,6 @@ texts_most s range (inr (inl e)) = refused_most s BadHeader e
 texts_most s range (inr (inr (inl e))) = refused_most s UnknownVersion e
 texts_most s range (inr (inr (inr e))) = refused_most s BadField e
 
--- ---- in a buffer
--- over l the text of s was put: d is what stands there now, n are its bytes
-abbrev Said : List ℕ → List ℕ → List ℕ → ℕ → Type 0
-Said l s d n = (d ≡ sets l 0 (head_text s)) × ((n ≡ length (head_text s)) × IsPrefixLen n d)
-
-pub said : (l s t : List ℕ) {d : List ℕ} {n : ℕ} → head_text s ≡ t → d ≡ sets l 0 t → n ≡ length t → n ≤ length l → Said l s d n
-said l s t e b c h =
-    let room : length t ≤ length l = omega arith in
-    rw e (b, (c, rw (b, c) (front_counts l t room)))
-
--- ---- a refusal x, its number y as a call is passed it
-module _ (l : List ℕ) (long : 1165 ≤ length l) (x : Refusal) {y : ℤ} (e : y ≡ refusal_number x) where
-  number_is : to_z w32 (of_z w32 y) ≡ refusal_number x
-  number_is = rw e (refusal_passed x)
-
-  pub refused_room : length (refusal (to_z w32 (of_z w32 y))) ≤ length l
-  refused_room = rw number_is (omega (arith, refusal_most x))
-
-  pub said_refused : (s : List ℕ) → head_text s ≡ refusal (refusal_number x) → {d : List ℕ} {n : ℕ} → d ≡ sets l 0 (refusal (to_z w32 (of_z w32 y)))
-      → n ≡ length (refusal (to_z w32 (of_z w32 y))) → Said l s d n
-  said_refused s t b c = said l s (refusal (refusal_number x)) t (rw number_is at b) (rw number_is at c) (omega (arith, refused_room))
+-- the number y of a refusal x, as a call is passed it
+pub number_is : (x : Refusal) {y : ℤ} → y ≡ refusal_number x → to_z w32 (of_z w32 y) ≡ refusal_number x
+number_is x e = rw e (refusal_passed x)

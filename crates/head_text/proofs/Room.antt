@@ -71,13 +71,25 @@ module _ (h : OpusHead) (r : InRange h) where
   pub entries-within : h.channels ≤ length h.mapping
   entries-within = omega (arith, r.channels, r.entry_count)
 
+  pub parts_most : length (opening_lines h.version h.channels h.pre_skip) + (length (sound_lines h.rate h.gain h.family)
+      + length (stream_lines h.streams h.coupled (take h.channels h.mapping))) ≤ 1165
+  parts_most =
+      let es = take h.channels h.mapping in
+      omega (
+        arith,
+        opening_most h.version h.channels h.pre_skip r.version r.channels r.pre_skip,
+        sound_most h.rate h.gain h.family r.rate (sfits_of r.gain) r.family,
+        streams_most h.streams h.coupled es r.streams r.coupled (bytes_take h.channels h.mapping r.entries)
+            (omega (arith, length-take-le h.channels h.mapping entries-within, r.channels)),
+      )
+
   pub lines_most : length (head_lines h) ≤ 1165
   unfolding head_lines
   lines_most =
       let es = take h.channels h.mapping in
-      three_most (opening_lines h.version h.channels h.pre_skip) (sound_lines h.rate h.gain h.family)
-      (stream_lines h.streams h.coupled es)
-      (opening_most h.version h.channels h.pre_skip r.version r.channels r.pre_skip)
-      (sound_most h.rate h.gain h.family r.rate (sfits_of r.gain) r.family)
-      (streams_most h.streams h.coupled es r.streams r.coupled (bytes_take h.channels h.mapping r.entries)
-      (omega (arith, length-take-le h.channels h.mapping entries-within, r.channels)))
+      omega (
+        arith,
+        length-append (opening_lines h.version h.channels h.pre_skip) (sound_lines h.rate h.gain h.family ++ stream_lines h.streams h.coupled es),
+        length-append (sound_lines h.rate h.gain h.family) (stream_lines h.streams h.coupled es),
+        parts_most,
+      )

@@ -1,9 +1,9 @@
 -- The text that the program `head` writes (document 02, M-111): the fields of an identification header in words, a line each, or `refused` and the number of
 -- the refusal. 32 is a space, 10 the end of a line.
+use Rattle.opus_defines.specs.declared.Refusal.{Refusal}
 use Rattle.std.specs.Prelude.{ℕ, List, [], ◌∷◌, ◌++◌, ℤ, take}
 use Rattle.opus_defines.specs.Numbers.{refusal_number}
-use Rattle.opus_defines.specs.declared.Verdict.{Verdict}
-use Rattle.opus_defines.specs.declared.Verdict.TheVariants.{Accepted, Refused}
+use Rattle.std.specs.Prelude.{Err, Ok, Result}
 use Rattle.opus_head.specs.Reading.{head_read}
 use Rattle.opus_head.specs.declared.OpusHead.{OpusHead}
 use Rattle.show.specs.Text.{decimal, integer, number_text, refusal}
@@ -40,9 +40,9 @@ head_lines h =
     ++ (sound_lines h.rate h.gain h.family ++ stream_lines h.streams h.coupled (take h.channels h.mapping))
 
 -- ---- the text
-abbrev pub answer_text : Verdict → OpusHead → List ℕ
-answer_text Accepted h = head_lines h
-answer_text (Refused e) h = refusal (refusal_number e)
+abbrev pub answer_text : Result (Unit {0}) Refusal → OpusHead → List ℕ
+answer_text (Ok tt) h = head_lines h
+answer_text (Err e) h = refusal (refusal_number e)
 
 -- of bytes of any number: what a header is followed by is for `head_read` to judge
 unfoldable pub head_text : List ℕ → List ℕ

@@ -1,98 +1,90 @@
 // The text of the program `head`: the fields of an identification header in words, a line each, put into a buffer.
 #![tactic(auto)]
 
-ghost use Rattle.std.specs.Prelude.{◌≡◌, ◌+◌, ◌≤◌, length};
-ghost use Rattle.std.proofs.lemmas.List.Edits.{sets};
-ghost use Rattle.io.specs.Counts.{IsPrefixLen};
+ghost use Rattle.std.specs.Prelude.{◌≡◌, ◌++◌, ◌+◌, ◌≤◌, length};
 ghost use Rattle.opus_head.specs.Parts.{fields_of};
 ghost use Rattle.show.specs.Text.{number_text};
 ghost use Rattle.head_text.specs.Text.{gain_line, entry_texts, mapping_line, opening_lines, sound_lines, stream_lines, head_lines, head_text};
 
-use opus_defines::{Verdict, wide_byte};
 use opus_head::OpusHead;
+use show::TextBuf;
 
 // ---- lines
 
 // A number between its label and the end of the line.
-fn put_number_line(out: &mut [u8], at: usize, label: &[u8], n: usize, end: &[u8]) -> usize
-    requires { at + length (number_text label.now n end.now) ≤ length out.old }
-    ensures bytes { out.new ≡ sets out.old at (number_text label.now n end.now) }
-    ensures next { result ≡ at + length (number_text label.now n end.now) }
+fn put_number_line<const N: usize>(text: &mut TextBuf<N>, label: &[u8], n: usize, end: &[u8])
+    requires { length text.old + length (number_text label.now n end.now) ≤ N }
+    ensures { text.new ≡ text.old ++ number_text label.now n end.now }
 {
-    let next = show::put_named(out, at, label, n);
-    show::put_text(out, next, end)
+    text.put_named(label, n);
+    text.put(end);
 }
 
-fn put_gain(out: &mut [u8], at: usize, gain: i16) -> usize
-    requires { at + length (gain_line gain) ≤ length out.old }
-    ensures bytes { out.new ≡ sets out.old at (gain_line gain) }
-    ensures next { result ≡ at + length (gain_line gain) }
+#[tactic(auto, using(crate::proofs::Texts::gains), unfolding(crate::specs::Labels::gain_label, crate::specs::Labels::gain_end))]
+fn put_gain<const N: usize>(text: &mut TextBuf<N>, gain: i16)
+    requires { length text.old + length (gain_line gain) ≤ N }
+    ensures { text.new ≡ text.old ++ gain_line gain }
 {
-    let mut next = show::put_text(out, at, b"gain ");
-    next = show::put_number(out, next, gain as i32);
-    show::put_text(out, next, b" in 1/256 dB\n")
+    text.put(b"gain ");
+    text.put_number(i32::from(gain));
+    text.put(b" in 1/256 dB\n");
 }
 
-fn put_entries(out: &mut [u8], at: usize, es: &[u8]) -> usize
-    requires { at + length (entry_texts es.now) ≤ length out.old }
-    ensures bytes { out.new ≡ sets out.old at (entry_texts es.now) }
-    ensures next { result ≡ at + length (entry_texts es.now) }
+fn put_entries<const N: usize>(text: &mut TextBuf<N>, es: &[u8])
+    requires { length text.old + length (entry_texts es.now) ≤ N }
+    ensures { text.new ≡ text.old ++ entry_texts es.now }
 {
-    let mut next = at;
-    let mut i: usize = 0;
-    while i < es.len() {
-        next = show::put_named(out, next, b" ", wide_byte(es[i]));
-        i += 1;
+    for entry in es {
+        text.put_named(b" ", usize::from(*entry));
     }
-    next
 }
 
-fn put_mapping(out: &mut [u8], at: usize, es: &[u8]) -> usize
-    requires { at + length (mapping_line es.now) ≤ length out.old }
-    ensures bytes { out.new ≡ sets out.old at (mapping_line es.now) }
-    ensures next { result ≡ at + length (mapping_line es.now) }
+#[tactic(auto, unfolding(crate::specs::Labels::mapping_label))]
+fn put_mapping<const N: usize>(text: &mut TextBuf<N>, es: &[u8])
+    requires { length text.old + length (mapping_line es.now) ≤ N }
+    ensures { text.new ≡ text.old ++ mapping_line es.now }
 {
-    let mut next = show::put_text(out, at, b"mapping");
-    next = put_entries(out, next, es);
-    show::put_text(out, next, b"\n")
+    text.put(b"mapping");
+    put_entries(text, es);
+    text.put(b"\n");
 }
 
 // ---- three lines at a time
 
-fn put_opening(out: &mut [u8], version: u8, channels: u8, skip: u16) -> usize
-    requires { length (opening_lines version channels skip) ≤ length out.old }
-    ensures bytes { out.new ≡ sets out.old 0 (opening_lines version channels skip) }
-    ensures next { result ≡ length (opening_lines version channels skip) }
+#[tactic(auto, unfolding(crate::specs::Text::opening_lines, crate::specs::Labels::version_label, crate::specs::Labels::channels_label, crate::specs::Labels::skip_label, crate::specs::Labels::samples_end))]
+fn put_opening<const N: usize>(text: &mut TextBuf<N>, version: u8, channels: u8, skip: u16)
+    requires { length text.old + length (opening_lines version channels skip) ≤ N }
+    ensures { text.new ≡ text.old ++ opening_lines version channels skip }
 {
-    let mut next = put_number_line(out, 0, b"version ", version as usize, b"\n");
-    next = put_number_line(out, next, b"channels ", channels as usize, b"\n");
-    put_number_line(out, next, b"pre-skip ", skip as usize, b" samples\n")
+    put_number_line(text, b"version ", usize::from(version), b"\n");
+    put_number_line(text, b"channels ", usize::from(channels), b"\n");
+    put_number_line(text, b"pre-skip ", usize::from(skip), b" samples\n");
 }
 
-fn put_sound(out: &mut [u8], at: usize, rate: u32, gain: i16, family: u8) -> usize
-    requires { at + length (sound_lines rate gain family) ≤ length out.old }
-    ensures bytes { out.new ≡ sets out.old at (sound_lines rate gain family) }
-    ensures next { result ≡ at + length (sound_lines rate gain family) }
+#[tactic(auto, unfolding(crate::specs::Text::sound_lines, crate::specs::Labels::rate_label, crate::specs::Labels::hertz_end, crate::specs::Labels::family_label))]
+fn put_sound<const N: usize>(text: &mut TextBuf<N>, rate: u32, gain: i16, family: u8)
+    requires { length text.old + length (sound_lines rate gain family) ≤ N }
+    ensures { text.new ≡ text.old ++ sound_lines rate gain family }
 {
-    let mut next = put_number_line(out, at, b"input rate ", rate as usize, b" Hz\n");
-    next = put_gain(out, next, gain);
-    put_number_line(out, next, b"family ", family as usize, b"\n")
+    put_number_line(text, b"input rate ", rate as usize, b" Hz\n");
+    put_gain(text, gain);
+    put_number_line(text, b"family ", usize::from(family), b"\n");
 }
 
-fn put_streams(out: &mut [u8], at: usize, streams: u8, coupled: u8, es: &[u8]) -> usize
-    requires { at + length (stream_lines streams coupled es.now) ≤ length out.old }
-    ensures bytes { out.new ≡ sets out.old at (stream_lines streams coupled es.now) }
-    ensures next { result ≡ at + length (stream_lines streams coupled es.now) }
+#[tactic(auto, unfolding(crate::specs::Text::stream_lines, crate::specs::Labels::streams_label, crate::specs::Labels::coupled_label))]
+fn put_streams<const N: usize>(text: &mut TextBuf<N>, streams: u8, coupled: u8, es: &[u8])
+    requires { length text.old + length (stream_lines streams coupled es.now) ≤ N }
+    ensures { text.new ≡ text.old ++ stream_lines streams coupled es.now }
 {
-    let mut next = put_number_line(out, at, b"streams ", streams as usize, b"\n");
-    next = put_number_line(out, next, b"coupled ", coupled as usize, b"\n");
-    put_mapping(out, next, es)
+    put_number_line(text, b"streams ", usize::from(streams), b"\n");
+    put_number_line(text, b"coupled ", usize::from(coupled), b"\n");
+    put_mapping(text, es);
 }
 
-// ---- the text, at the front of a buffer: at most 1,165 bytes
+// ---- the text: at most 1,165 bytes
 
-fn put_fields(
-    out: &mut [u8],
+fn put_fields<const N: usize>(
+    text: &mut TextBuf<N>,
     version: u8,
     channels: u8,
     skip: u16,
@@ -102,28 +94,23 @@ fn put_fields(
     streams: u8,
     coupled: u8,
     mapping: &[u8],
-) -> usize
-    requires { (length mapping.now ≡ 255) × (1165 ≤ length out.old) }
-    ensures bytes { out.new
-        ≡ sets out.old 0 (head_lines (fields_of version channels skip rate gain family streams coupled mapping.now)) }
-    ensures next { result ≡ length (head_lines (fields_of version channels skip rate gain family streams coupled mapping.now)) }
-    ensures within { result ≤ length out.old }
+)
+    requires { (length mapping.now ≡ 255) × (length text.old + 1165 ≤ N) }
+    ensures { text.new ≡ text.old ++ head_lines (fields_of version channels skip rate gain family streams coupled mapping.now) }
 {
-    let mut next = put_opening(out, version, channels, skip);
-    next = put_sound(out, next, rate, gain, family);
+    put_opening(text, version, channels, skip);
+    put_sound(text, rate, gain, family);
     let n = channels as usize;
-    put_streams(out, next, streams, coupled, &mapping[..n])
+    put_streams(text, streams, coupled, &mapping[..n]);
 }
 
-fn put_head(out: &mut [u8], head: OpusHead) -> usize
-    requires { 1165 ≤ length out.old }
-    ensures bytes { out.new ≡ sets out.old 0 (head_lines head) }
-    ensures next { result ≡ length (head_lines head) }
-    ensures within { result ≤ length out.old }
+fn put_head<const N: usize>(text: &mut TextBuf<N>, head: OpusHead)
+    requires { length text.old + 1165 ≤ N }
+    ensures { text.new ≡ text.old ++ head_lines head }
 {
     let mapping = head.mapping;
     put_fields(
-        out,
+        text,
         head.version,
         head.channels,
         head.pre_skip,
@@ -133,27 +120,25 @@ fn put_head(out: &mut [u8], head: OpusHead) -> usize
         head.streams,
         head.coupled,
         &mapping,
-    )
+    );
 }
 
 // Puts the text of the header at the front of `data`: its fields, or the line `refused` with the refusal's number.
-pub fn put_text(data: &[u8], out: &mut [u8]) -> usize
-    requires { 1165 ≤ length out.old }
-    ensures bytes { out.new ≡ sets out.old 0 (head_text «data».now) }
-    ensures next { result ≡ length (head_text «data».now) }
-    ensures within { IsPrefixLen result out.new }
+pub fn put_text<const N: usize>(data: &[u8], text: &mut TextBuf<N>)
+    requires { length text.old + 1165 ≤ N }
+    ensures { text.new ≡ text.old ++ head_text «data».now }
 {
     let read = opus_head::head_read(data);
     let verdict = read.verdict;
     match verdict {
-        Verdict::Accepted => put_head(out, read.head),
-        Verdict::Refused(e) => show::put_refused(out, opus_defines::refusal_number(e)),
+        Ok(()) => put_head(text, read.head),
+        Err(e) => text.put_refused(opus_defines::refusal_number(e)),
     }
 }
 
 // Prints the text; where that fails it is told.
 pub fn print(data: &[u8]) {
-    let mut out = [0u8; 1165];
-    let n = put_text(data, &mut out);
-    stdio::print(&out[..n]);
+    let mut text: TextBuf<1165> = TextBuf::new();
+    put_text(data, &mut text);
+    let _ = stdio::print(text.as_bytes());
 }

@@ -96,8 +96,8 @@ pub going_start : (s l : List ℕ) → length l ≡ 4096 → Going s l 0 none
 going_start s l h = record { long = h; fine = record { inside = omega arith; few = omega arith } }
 
 module _ {s l : List ℕ} {at : ℕ} {t : Tally} (g : Going s l at t) {r : Lines} (e : r ≡ lines_of (part_from s at t (length l))) where
-  pub going_less : (done : Bool) → done ≡ false → left s r.done r.next < left s done at
-  going_less done v = rw (e, v) (part_moves s at t (length l) (omega (arith, g.long)) g.fine)
+  pub going_less : left s r.done r.next < left s false at
+  going_less = rw e (part_moves s at t (length l) (omega (arith, g.long)) g.fine)
 
   pub going_on : {d : List ℕ} → d ≡ sets l 0 (part_from s at t (length l)).text → Going s d r.next r.tally
   going_on b =

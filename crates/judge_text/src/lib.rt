@@ -174,14 +174,12 @@ pub fn print(data: &[u8]) {
         longer: 0,
         clean: 0,
     };
-    let mut done = false;
-    while !done {
+    'parts: loop {
         let l = put_part(data, at, t, &mut out);
-        if !stdio::print(&out[..l.bytes]) {
+        if stdio::print(&out[..l.bytes]).is_err() || l.done {
             return;
         }
         at = l.next;
         t = l.tally;
-        done = l.done;
     }
 }

@@ -17,11 +17,11 @@ use borrow.Author.Tests.{ltb-false, le-ltb, ltb-true}
 use Rattle.io.specs.Counts.{IsPrefixLen}
 use Rattle.laws.specs.Bytes.{Bytes}
 use Rattle.laws.proofs.Never.{never, by_test}
-use Rattle.opus_defines.specs.Numbers.{refusal_report, verdict_report}
+use Rattle.opus_defines.specs.Numbers.{refusal_report}
 use Rattle.opus_defines.specs.declared.Refusal.{Refusal}
 use Rattle.opus_defines.specs.declared.Refusal.TheVariants.{BadArg}
 use Rattle.opus_defines.specs.declared.Report.{Report}
-use Rattle.opus_defines.specs.declared.Verdict.TheVariants.{Accepted, Refused}
+use Rattle.std.specs.Prelude.{Err, Ok}
 use Rattle.opus_size.specs.Size.{most_bytes}
 use Rattle.opus_toc.specs.Toc.{upper_six}
 use Rattle.opus_format.specs.Frames.{total, longest}
@@ -61,10 +61,10 @@ pub record Read (p : List ℕ) (r : Packet) : Type 0 where
 small_most : (ns : List ℕ) → length ns ≤ 48 → longest ns ≤ most_bytes → compact_bytes (length ns) (sums_of ns) false < 100000
 small_most ns h k = omega (arith, compact-front (length ns), sums_few ns (sums_of ns) refl h k)
 
-pub listing-read : (p : List ℕ) (r : Packet) → Bytes p → r ≡ parsed false p → r.verdict ≡ Accepted → Read p r
+pub listing-read : (p : List ℕ) (r : Packet) → Bytes p → Ok r ≡ parsed false p → Read p r
 unfolding listing listed
-listing-read p r bytes e v =
-    let d = parsed_accepted false p r e v in
+listing-read p r bytes e =
+    let d = parsed_accepted false p r e in
     let ns = lengths_of r in
     let f = facts false p r.toc ns r.first r.taken bytes d.means in
     let within : r.first + total ns ≤ length p = omega (arith, f.block, f.within) in
@@ -84,20 +84,20 @@ line_most_lem c h =
     let k = refusal_few c in
     rw k.2 (report_most k.0 (refusal_report c).rule (refusal_report c).place (omega (arith, k.1)) (omega (arith, report_rule c)) (omega (arith, h)))
 
--- the reader refuses r, and x is what it says, as it is passed on
-module _ (p : List ℕ) (r : Packet) (e : r ≡ parsed false p) (c : Refusal) (v : r.verdict ≡ Refused c) where
+-- the reader refuses p, and x is what it says, as it is passed on
+module _ (p : List ℕ) (c : Refusal) (e : Err c ≡ parsed false p) where
   place_few : (refusal_report c).place < 65536
   place_few =
       by_test (ltb 65535 (length p))
       (λ t. let y = e ∙ sym (parse_long false p (ltb-true 65535 (length p) t)) in let b : c ≡ BadArg = cc in rw b (omega arith))
       (λ t.
       let short = ltb-false 65535 (length p) t in
-      let q = parsed_refused false p r e c v short in
+      let q = parsed_refused false p c e short in
       rw (q.2, rule_report q.0 q.1) (omega (arith, refused_within false p q.0 q.1 q.3, short)))
 
-  module _ (x : Report) (n : x ≡ verdict_report 0 r.verdict) where
+  module _ (x : Report) (n : x ≡ refusal_report c) where
     line_is : report_line (to_z w32 (of_z w32 x.number)) x.rule x.place ≡ refused_line c
-    line_is = rw (n, v, refusal_passed c)
+    line_is = rw (n, refusal_passed c)
 
     pub refused_room : (l : List ℕ) → 2048 ≤ length l → length (report_line (to_z w32 (of_z w32 x.number)) x.rule x.place) ≤ length l
     refused_room l h = rw line_is (omega (arith, line_most_lem c place_few))
@@ -109,6 +109,6 @@ module _ (p : List ℕ) (r : Packet) (e : r ≡ parsed false p) (c : Refusal) (v
         (by_test (ltb 65535 (length p)) (λ t. rw t (let y = e ∙ sym (parse_long false p (ltb-true 65535 (length p) t)) in cc))
         (λ t. rw t (go (e ∙ sym (parse_read false p (ltb-false 65535 (length p) t))) (read false p) refl)))
       where
-        go : r ≡ packet_of (read false p) → (y : Reading) → read false p ≡ y → listed p (read false p) ≡ refused_line c
+        go : Err c ≡ packet_of (read false p) → (y : Reading) → read false p ≡ y → listed p (read false p) ≡ refused_line c
         go f (refused rule place) q = rw q (let y = rw q at f in cc)
         go f (accepted toc ns first taken) q = never (let y = rw q at f in cc)

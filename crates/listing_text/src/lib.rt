@@ -12,8 +12,6 @@ ghost use Rattle.show.specs.Text.{decimal};
 ghost use Rattle.listing_text.specs.Listing.{frame_line, frame_lines, times, sizes, packet_text, report_line};
 ghost use Rattle.listing_text.specs.Listing.{listing as Listing·listing};
 
-use opus_defines::{Verdict, wide};
-
 // ---- a packet that was read
 
 fn put_times(out: &mut [u8], toc: u8, ns: &[u16]) -> usize
@@ -57,12 +55,10 @@ fn put_frames(out: &mut [u8], at: usize, first: usize, ns: &[u16]) -> usize
 {
     let mut next = at;
     let mut place = first;
-    let mut i: usize = 0;
-    while i < ns.len() {
-        let n = wide(ns[i]);
+    for (i, length) in ns.iter().enumerate() {
+        let n = usize::from(*length);
         next = put_frame(out, next, i, place, n);
         place += n;
-        i += 1;
     }
     next
 }
@@ -114,14 +110,11 @@ pub fn listing(data: &[u8], out: &mut [u8]) -> usize
     ensures next { result ≡ length (Listing·listing «data».now) }
     ensures within { IsPrefixLen result out.new }
 {
-    let p = opus::opus_packet_parse(data);
-    let v = p.verdict;
-    let Verdict::Accepted = v else {
-        let r = opus_defines::verdict_report(opus_defines::OPUS_OK, v);
-        return put_report(out, r.number, r.rule, r.place);
-    };
-    let n = p.count;
-    let lengths = p.lengths;
-    let first = p.first;
-    put_packet(out, p.toc, &lengths[..n], first, p.taken)
+    match opus::opus_packet_parse(data) {
+        Ok(p) => put_packet(out, p.toc, &p.lengths[..p.count], p.first, p.taken),
+        Err(e) => {
+            let r = opus_defines::refusal_report(e);
+            put_report(out, r.number, r.rule, r.place)
+        }
+    }
 }

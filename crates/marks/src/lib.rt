@@ -61,14 +61,12 @@ fn find_from(data: &[u8], from: usize) -> usize
     ensures place { result ≡ from + index_of 0x4B (slice from (length «data».now) «data».now) }
     ensures within { result ≤ length «data».now }
 {
-    let mut at = from;
-    while at < data.len() {
+    for at in from..data.len() {
         if data[at] == 0x4B {
             return at;
         }
-        at += 1;
     }
-    at
+    data.len()
 }
 
 // The place of the first 4B from a place on, or the end.

@@ -22,8 +22,8 @@ use Rattle.opus_format.specs.Reading.{Reading, refused, accepted, read}
 use Rattle.opus_format.proofs.Facts.{facts}
 use Rattle.opus_header.specs.Compact.{compact}
 use Rattle.opus_header.proofs.Rebuilt.{rebuilds}
-use Rattle.multistream.specs.declared.Passed.{Passed}
-use Rattle.multistream.specs.declared.Passed.TheVariants.{Past, Stuck}
+use Rattle.std.specs.Prelude.{Result, Ok, Err}
+use Rattle.opus_defines.specs.declared.Refusal.{Refusal}
 use Rattle.multistream.specs.Streams.{further, pass_streams}
 use Rattle.multistream.specs.Unpad.{Repacked, unread, repacked, ahead, repack_reading, repack_streams}
 use Rattle.multistream.specs.Parts.{compact_by, compact_of, taken_by, packed_of}
@@ -48,19 +48,19 @@ pub part-short : (s : List ℕ) (at m : ℕ) → length s ≤ m → length (take
 part-short s at m h = rw (part_to_end s at) (omega (arith, length-drop at s))
 
 -- so many bytes further
-further-within : (n m at : ℕ) (x : Passed) → ((a : ℕ) → x ≡ Past a → n + a ≤ m) → further n x ≡ Past at → at ≤ m
-further-within n m at (Past a) h e =
+further-within : (n m at : ℕ) (x : Result ℕ Refusal) → ((a : ℕ) → x ≡ Ok a → n + a ≤ m) → further n x ≡ Ok at → at ≤ m
+further-within n m at (Ok a) h e =
     let same : n + a ≡ at = cc in
     omega (arith, h a refl)
-further-within n m at (Stuck f) h e = never (cc)
+further-within n m at (Err f) h e = never (cc)
 
-pub pass_within : (k : ℕ) (p : List ℕ) (at : ℕ) → Bytes p → pass_streams k p ≡ Past at → at ≤ length p
+pub pass_within : (k : ℕ) (p : List ℕ) (at : ℕ) → Bytes p → pass_streams k p ≡ Ok at → at ≤ length p
 pass_within zero p at bytes e =
     let none : 0 ≡ at = cc in
     omega arith
 pass_within (suc k) p at bytes e = go (λ n. pass_within k (drop n p)) (read true p) refl
   where
-    go : ((n b : ℕ) → Bytes (drop n p) → pass_streams k (drop n p) ≡ Past b → b ≤ length (drop n p)) → (x : Reading) → read true p ≡ x
+    go : ((n b : ℕ) → Bytes (drop n p) → pass_streams k (drop n p) ≡ Ok b → b ≤ length (drop n p)) → (x : Reading) → read true p ≡ x
         → at ≤ length p
     go next (refused rule place) q = never (let y = rw q at e in cc)
     go next (accepted toc ns first taken) q =

@@ -25,17 +25,15 @@ use Rattle.laws.proofs.Never.{never, by_test}
 use Rattle.blocks.proofs.Sets.{drop-take}
 use Rattle.opus_defines.specs.Numbers.{refusal_report, report_of}
 use Rattle.opus_defines.specs.Rules.{shifted}
-use Rattle.opus_defines.specs.declared.Answer.{Answer}
+use Rattle.std.specs.Prelude.{Err, Ok, Result}
 use Rattle.opus_defines.specs.Outcome.{Effect, refusal, wrote, written, leaves, refuses}
 use Rattle.opus_defines.specs.declared.Refusal.{Refusal}
 use Rattle.opus_defines.specs.declared.Refusal.TheVariants.{BadArg}
-use Rattle.opus_defines.specs.declared.Verdict.TheVariants.{Accepted, Refused}
 use Rattle.opus_defines.proofs.Outcomes.{meets}
 use Rattle.packet_pad.specs.Lengths.{length_of, lengths_of}
 use Rattle.packet_pad.specs.Pad.{answered, pad_packet}
 use Rattle.packet_pad.proofs.Calls.{pad_place}
 use Rattle.packet_pad.specs.declared.lengths.Lengths.TheVariants.{Bad, Same, More}
-use Rattle.multistream.specs.declared.Passed.TheVariants.{Past, Stuck}
 use Rattle.multistream.specs.Streams.{streams_of, pass_streams}
 use Rattle.multistream.specs.Pad.{behind, pad_last, pad_streams, streams_padded}
 use Rattle.multistream.specs.Unpad.{Repacked, unread, repacked, repack_streams, repacks, unpad_streams, streams_unpadded}
@@ -98,11 +96,11 @@ unpad_passed s len nb f h = rw (to_z-of_z w32 len f, to_z-of_z w32 nb h)
 
 -- ---- pad: what reading the first streams answered
 module _ (p : List ℕ) (k new : ℕ) where
-  pub pad_stuck : (e : Refusal) → pass_streams (k - 1) p ≡ Stuck e → pad_streams k p new ≡ refusal e
+  pub pad_stuck : (e : Refusal) → pass_streams (k - 1) p ≡ Err e → pad_streams k p new ≡ refusal e
   unfolding pad_streams
   pad_stuck e h = rw h
 
-  pub pad_last_lem : (at : ℕ) → pass_streams (k - 1) p ≡ Past at → pad_streams k p new ≡ pad_last p new (Past at)
+  pub pad_last_lem : (at : ℕ) → pass_streams (k - 1) p ≡ Ok at → pad_streams k p new ≡ pad_last p new (Ok at)
   unfolding pad_streams
   pad_last_lem at h = rw h
 
@@ -117,23 +115,23 @@ module _ (s : List ℕ) (len new at : ℕ) (fits : len ≤ length s) where
   size : length (take len s) ≡ len
   size = length-take-le len s fits
 
-  pub last_none : at ≡ len → pad_last (take len s) new (Past at) ≡ refusal BadArg
+  pub last_none : at ≡ len → pad_last (take len s) new (Ok at) ≡ refusal BadArg
   last_none e =
       let none : length (take len s) - at ≡ 0 = omega (arith, size) in
       rw none
 
   module _ (inside : at ≤ len) (some : at ≡ len → ⊥) where
-    last_some : pad_last (take len s) new (Past at) ≡ behind (take at s) (pad_packet (take (len - at) (drop at s)) (new - at))
+    last_some : pad_last (take len s) new (Ok at) ≡ behind (take at s) (pad_packet (take (len - at) (drop at s)) (new - at))
     last_some =
         let left : length (take len s) - at ≡ len - at = omega (arith, size) in
         rw (left, ne_eqb (len - at) 0 (λ z. some (omega arith)), take-take at len s inside, drop-take at len s)
 
     -- as the code lends the last stream
-    pub last-behind : {r t : Answer} {v : List ℕ}
+    pub last-behind : {r t : Result ℕ Refusal} {v : List ℕ}
         → let d = take (length s - at) (drop at s) in let x = pad_packet (take (len - at) d) (new - at) in
         r ≡ answered x → t ≡ shifted_answer at r → v ≡ (leaves d x).bytes
-        → (report_of t ≡ (leaves s (pad_last (take len s) new (Past at))).report)
-        × (put_mid at (length s - at) s v ≡ (leaves s (pad_last (take len s) new (Past at))).bytes)
+        → (report_of t ≡ (leaves s (pad_last (take len s) new (Ok at))).report)
+        × (put_mid at (length s - at) s v ≡ (leaves s (pad_last (take len s) new (Ok at))).bytes)
     last-behind {v = v} a t b =
         let x = pad_packet (take (len - at) (drop at s)) (new - at) in
         let q = behind-leaves s at (omega arith) x in
@@ -142,7 +140,7 @@ module _ (s : List ℕ) (len new at : ℕ) (fits : len ≤ length s) where
         meets (ap (leaves s) last_some) (ap report_of (t ∙ ap (shifted_answer at) a') ∙ q.0) (rw (put_back s at v, b') q.1)
 
     -- and the place of its refusal is within it
-    pub last_place : {r : Answer} → r ≡ answered (pad_packet (take (len - at) (take (length s - at) (drop at s))) (new - at))
+    pub last_place : {r : Result ℕ Refusal} → r ≡ answered (pad_packet (take (len - at) (take (length s - at) (drop at s))) (new - at))
         → (report_of r).place + at ≤ len
     last_place e =
         let d = drop at s in
@@ -150,19 +148,19 @@ module _ (s : List ℕ) (len new at : ℕ) (fits : len ≤ length s) where
         rw f (omega (arith, pad_place (take (len - at) d) (new - at), length-take (len - at) d))
 
 -- ---- unpad: the verdict on the streams
-accepted_repacks : (x : Repacked) → verdict_of x ≡ Accepted → repacks x ≡ written (packed_of x)
+accepted_repacks : (x : Repacked) → verdict_of x ≡ Ok tt → repacks x ≡ written (packed_of x)
 accepted_repacks (unread e) v = never (cc)
 accepted_repacks (repacked q) v = refl
 
-refused_repacks : (x : Repacked) (e : Refusal) → verdict_of x ≡ Refused e → repacks x ≡ refusal e
+refused_repacks : (x : Repacked) (e : Refusal) → verdict_of x ≡ Err e → repacks x ≡ refusal e
 refused_repacks (unread e) f v = let same : e ≡ f = cc in rw same
 refused_repacks (repacked q) f v = never (cc)
 
 module _ (k : ℕ) (p : List ℕ) where
-  pub unpad_refused : (e : Refusal) → verdict_of (repack_streams (k - 1) p) ≡ Refused e → unpad_streams k p ≡ refusal e
+  pub unpad_refused : (e : Refusal) → verdict_of (repack_streams (k - 1) p) ≡ Err e → unpad_streams k p ≡ refusal e
   unfolding unpad_streams
   unpad_refused = refused_repacks (repack_streams (k - 1) p)
 
-  pub unpad_all : verdict_of (repack_streams (k - 1) p) ≡ Accepted → unpad_streams k p ≡ written (packed_of (repack_streams (k - 1) p))
+  pub unpad_all : verdict_of (repack_streams (k - 1) p) ≡ Ok tt → unpad_streams k p ≡ written (packed_of (repack_streams (k - 1) p))
   unfolding unpad_streams
   unpad_all = accepted_repacks (repack_streams (k - 1) p)

@@ -26,7 +26,7 @@ use Rattle.opus_format.proofs.Sound.{read_spelled}
 use Rattle.opus_format.proofs.Complete.{spelled_read, spelled_six, spelled_frames}
 use Rattle.opus_header.specs.Compact.{compact}
 use Rattle.opus_header.proofs.Rebuilt.{compact_of_lem}
-use Rattle.multistream.specs.declared.Passed.TheVariants.{Past}
+use Rattle.std.specs.Prelude.{Ok}
 use Rattle.multistream.specs.Streams.{pass_streams}
 use Rattle.multistream.specs.Unpad.{Repacked, repacked, repack_reading, repack_streams}
 use Rattle.multistream.specs.Reading.{Stream, Streams, unreadable, streams, and_streams, then_streams, read_streams, compact_streams}
@@ -72,7 +72,7 @@ spelled_streams {sd = sd} {c = c} w rest b next =
 -- and it is passed over likewise
 spelled_passed : {six : ℕ} {c : List ℕ} {frames : List (List ℕ)} → Spells true six c frames → {n : ℕ} → length c ≡ n
     → (k at : ℕ) (rest : List ℕ)
-    → pass_streams k rest ≡ Past at → pass_streams (suc k) (c ++ rest) ≡ Past (n + at)
+    → pass_streams k rest ≡ Ok at → pass_streams (suc k) (c ++ rest) ≡ Ok (n + at)
 spelled_passed {c = c} w e k at rest h = rw (spelled_read w rest tt, drop-append_seam c rest, h, e)
 
 module _ (sd : Bool) (next : List ℕ → Streams) (p : List ℕ) (bytes : Bytes p) (xs : List Stream) (h : Held sd next p xs) where
@@ -138,10 +138,10 @@ compact_holds (suc k) p bytes xs e =
 -- it is at a place behind the others, where anything may stand in its place, and what reads as it keeps the streams
 pub record LastOf (k : ℕ) (p : List ℕ) (xs : List Stream) : Type 0 where
   pub at : ℕ
-  pub passed : pass_streams k p ≡ Past at
+  pub passed : pass_streams k p ≡ Ok at
   pub last : List Stream
   pub reads : read_streams 0 (drop at p) ≡ streams last
-  pub stays : (v : List ℕ) → pass_streams k (take at p ++ v) ≡ Past at
+  pub stays : (v : List ℕ) → pass_streams k (take at p ++ v) ≡ Ok at
   pub keeps : (v : List ℕ) → read_streams 0 v ≡ streams last → read_streams k (take at p ++ v) ≡ streams xs
 
 pub last_of : (k : ℕ) (p : List ℕ) → Bytes p → (xs : List Stream) → read_streams k p ≡ streams xs → LastOf k p xs

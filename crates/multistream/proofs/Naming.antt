@@ -27,8 +27,7 @@ use Rattle.packet_pad.specs.Pad.{pad_reading, pad_packet}
 use Rattle.packet_pad.specs.declared.lengths.Lengths.{Lengths}
 use Rattle.packet_pad.specs.declared.lengths.Lengths.TheVariants.{Bad, Same, More}
 use Rattle.packet_pad.proofs.Given.{more_is}
-use Rattle.multistream.specs.declared.Passed.{Passed}
-use Rattle.multistream.specs.declared.Passed.TheVariants.{Past, Stuck}
+use Rattle.std.specs.Prelude.{Result, Ok, Err}
 use Rattle.multistream.specs.Streams.{streams_of, pass_by, further, then_pass, pass_streams}
 use Rattle.multistream.specs.Pad.{behind, pad_last, pad_streams, streams_padded}
 use Rattle.multistream.specs.Unpad.{Repacked, unread, repacked, ahead, repack_reading, repack_streams, repacks, unpad_streams, streams_unpadded}
@@ -65,13 +64,13 @@ refuses_here p sd rule place r =
     record { sd = sd; at = 0; rule = rule; place = place; reads = r; is = ap (rule_refusal rule) (sym (zero-add place)) }
 
 -- ---- the first streams
-abbrev Stops : List ℕ → Passed → Type 0
-Stops p (Past n) = Unit {0}
-Stops p (Stuck e) = Refuses p e
+abbrev Stops : List ℕ → Result ℕ Refusal → Type 0
+Stops p (Ok n) = Unit {0}
+Stops p (Err e) = Refuses p e
 
-further_stops : (p : List ℕ) (n : ℕ) (x : Passed) → Stops (drop n p) x → Stops p (further n x)
-further_stops p n (Past at) r = tt
-further_stops p n (Stuck e) r = refuses-behind p n e r
+further_stops : (p : List ℕ) (n : ℕ) (x : Result ℕ Refusal) → Stops (drop n p) x → Stops p (further n x)
+further_stops p n (Ok at) r = tt
+further_stops p n (Err e) r = refuses-behind p n e r
 
 pass_stops : (k : ℕ) (p : List ℕ) → Stops p (pass_streams k p)
 pass_stops zero p = tt
@@ -97,9 +96,9 @@ pad_streams_named : (s : List ℕ) (k : ℕ) (p : List ℕ) → Bytes p → (m :
 unfolding pad_streams
 pad_streams_named s k p bytes m = go (pass_streams (k - 1) p) refl (pass_stops (k - 1) p)
   where
-    go : (x : Passed) → pass_streams (k - 1) p ≡ x → Stops p x → Named p (leaves s (pad_last p m x)).report
-    go (Stuck e) q r = refuses_named p e r
-    go (Past at) q r =
+    go : (x : Result ℕ Refusal) → pass_streams (k - 1) p ≡ x → Stops p x → Named p (leaves s (pad_last p m x)).report
+    go (Err e) q r = refuses_named p e r
+    go (Ok at) q r =
         by_test (eqb (length p - at) 0) (λ t. rw t (unnamed refl refl))
         (λ t. rw t (behind_named s p at (m - at) (pass_within (k - 1) p at bytes q)))
 

@@ -1,5 +1,5 @@
 -- A stream that is rewritten in compact form further to the front, and the loop over all streams.
---     accepted_verdict, lent_read                   one stream: the reader's answer, with its lengths in a lent array
+--     readable_ok, lent_ok                          one stream: the reader's answer, with its lengths in a lent array
 --     lying, taken_fits, rewrite_fits, rewritten    how it lies, and what its rewrite needs and leaves
 --     Repacking                                     what the loop keeps: the streams so far stand in compact form at the front, and the
 --                                                   unread ones are as they were
@@ -14,7 +14,7 @@ use native.Mathlib.Omega.{arith}
 use mathlib.Core.Path.{◌≡◌, refl, sym, ap, ◌∙◌}
 use mathlib.Core.List.{List, [], ◌++◌, append-nil, append_assoc}
 use mathlib.Core.Bool.{Bool, true, false}
-use lib.ListN.{length, take, drop, length-append, length-drop}
+use lib.ListN.{length, take, drop, length-append, length-take, length-drop}
 use lib.Seq.{sets, drop-drop, length-sets, length-take-le}
 use borrow.Author.Rules.{part_to_end}
 use borrow.Rule.Slice.PartMut.{put_mid}
@@ -23,15 +23,14 @@ use Rattle.laws.proofs.Bytes.{bytes_drop, bytes_take}
 use Rattle.laws.proofs.Never.{never}
 use Rattle.blocks.proofs.Sets.{sets-append, drop-sets_past, drop-take}
 use Rattle.opus_defines.proofs.Others.{shifted_none, shifted_more}
-use Rattle.opus_defines.specs.declared.Verdict.{Verdict}
-use Rattle.opus_defines.specs.declared.Verdict.TheVariants.{Accepted, Refused}
+use Rattle.opus_defines.specs.declared.Refusal.{Refusal}
+use Rattle.std.specs.Prelude.{Err, Ok, Result, IsOk}
 use Rattle.opus_toc.specs.Toc.{upper_six}
 use Rattle.opus_format.specs.Frames.{cut, total}
 use Rattle.opus_format.specs.Reading.{Reading, refused, accepted, read}
 use Rattle.opus.specs.Answers.{packet_of, parsed, answer_of}
 use Rattle.opus.specs.declared.Packet.{Packet}
 use Rattle.opus.specs.declared.PacketHead.{PacketHead}
-use Rattle.opus.proofs.Lent.{packet_with, lent_accepted}
 use Rattle.opus_header.specs.Header.{compact_header}
 use Rattle.opus_header.specs.Compact.{compact}
 use Rattle.opus.proofs.Parsed.{lengths_of}
@@ -45,25 +44,26 @@ use Rattle.multistream.proofs.Passing.{shifted_verdict, ahead_verdict}
 use Rattle.blocks.proofs.LentParts.{sets_lent}
 
 -- ---- one stream
-pub accepted_verdict : (sd : Bool) (p : List ℕ) (r : Packet) → r ≡ parsed sd p → length p ≤ 65535 → is_accepted (read sd p) ≡ true
-    → r.verdict ≡ Accepted
-accepted_verdict sd p r e h ok = go (read sd p) (e ∙ sym (parse_read sd p h)) ok
+pub readable_ok : (sd : Bool) (p : List ℕ) → length p ≤ 65535 → is_accepted (read sd p) ≡ true → (r : Packet) × (Ok r ≡ parsed sd p)
+readable_ok sd p h ok = go (read sd p) (parse_read sd p h) ok
   where
-    go : (x : Reading) → r ≡ packet_of x → is_accepted x ≡ true → r.verdict ≡ Accepted
+    go : (x : Reading) → packet_of x ≡ parsed sd p → is_accepted x ≡ true → (r : Packet) × (Ok r ≡ parsed sd p)
     go (refused rule place) e a = never (cc)
-    go (accepted toc ns first taken) e a = ap (λ (q : Packet). q.verdict) e
+    go (accepted toc ns first taken) e a = (_, e)
 
--- the reader's answer, with its lengths in a lent array
-pub lent_read : (sd : Bool) (s : List ℕ) (to from len : ℕ) → (to ≤ from) × (from ≤ len) × (len ≤ length s) × (len ≤ 65535)
-    → is_accepted (read sd (stream s from len)) ≡ true → (h : PacketHead) (l : List ℕ) → answer_of h l ≡ parsed sd (stream s from len)
-    → packet_with h l ≡ parsed sd (stream s from len)
-lent_read sd s to from len places ok h l e =
-    let long = length-take-le (len - from) (drop from s) (omega (arith, length-drop from s)) in
-    lent_accepted sd (stream s from len) h l e (accepted_verdict sd (stream s from len) (answer_of h l) e (omega (arith, long)) ok)
+-- what the reader answers of a packet that was read before, with its lengths in a lent array, is no refusal
+pub lent_ok : (sd : Bool) (p : List ℕ) → length p ≤ 65535 → is_accepted (read sd p) ≡ true → (r : Result PacketHead Refusal) (l : List ℕ)
+    → answer_of r l ≡ parsed sd p → IsOk r
+lent_ok sd p h ok (Ok x) l e = refl
+lent_ok sd p h ok (Err c) l e = never (let q = (readable_ok sd p h ok).1 ∙ sym e in cc)
+
+-- the stream at `from`, of what ends at `len`, is so short
+pub stream_short : (s : List ℕ) (from len : ℕ) → len ≤ 65535 → length (stream s from len) ≤ 65535
+stream_short s from len h = omega (arith, length-take (len - from) (drop from s))
 
 -- the stream at `from`, of what ends at `len`, goes to `to`; r is the reader's answer
 module _ (sd : Bool) (s : List ℕ) (to from len : ℕ) (places : (to ≤ from) × (from ≤ len) × (len ≤ length s) × (len ≤ 65535))
-    (ok : is_accepted (read sd (stream s from len)) ≡ true) (bytes : Bytes s) (r : Packet) (p : r ≡ parsed sd (stream s from len)) where
+    (ok : is_accepted (read sd (stream s from len)) ≡ true) (bytes : Bytes s) (r : Packet) (p : Ok r ≡ parsed sd (stream s from len)) where
   fits : len - from ≤ length (drop from s)
   fits = omega (arith, length-drop from s)
 
@@ -74,7 +74,7 @@ module _ (sd : Bool) (s : List ℕ) (to from len : ℕ) (places : (to ≤ from) 
   inner = bytes_take (len - from) (drop from s) (bytes_drop from s bytes)
 
   pub lying : Lies sd (drop from s) (len - from) r
-  lying = lies sd (drop from s) (len - from) r (bytes_drop from s bytes) fits p (accepted_verdict sd (stream s from len) r p (omega (arith, long)) ok)
+  lying = lies sd (drop from s) (len - from) r (bytes_drop from s bytes) fits p
 
   taken_is : taken_by (read sd (stream s from len)) ≡ r.taken
   taken_is = rw lying.means
@@ -117,11 +117,11 @@ module _ (sd : Bool) (s : List ℕ) (to from len : ℕ) (places : (to ≤ from) 
 -- ---- one stream and those behind it
 -- where the verdict is good, the stream was read
 module _ (sd : Bool) (next : List ℕ → Repacked) (p : List ℕ) where
-  was_read : (x : Reading) → verdict_of (repack_reading sd next p x) ≡ Accepted → is_accepted x ≡ true
+  was_read : (x : Reading) → verdict_of (repack_reading sd next p x) ≡ Ok tt → is_accepted x ≡ true
   was_read (refused rule place) v = never (cc)
   was_read (accepted toc ns first taken) v = refl
 
-  was_repacked : (x : Reading) → verdict_of (repack_reading sd next p x) ≡ Accepted
+  was_repacked : (x : Reading) → verdict_of (repack_reading sd next p x) ≡ Ok tt
       → repack_reading sd next p x ≡ ahead (compact_by sd p x) (taken_by x) (next (drop (taken_by x) p))
   was_repacked (refused rule place) v = never (cc)
   was_repacked (accepted toc ns first taken) v = refl
@@ -134,9 +134,9 @@ ahead_none : (x : Repacked) → ahead [] 0 x ≡ x
 ahead_none (unread e) = ap unread (shifted_none e)
 ahead_none (repacked v) = refl
 
-accepted_shifted : (n : ℕ) (v : Verdict) → shifted_verdict n v ≡ Accepted → v ≡ Accepted
-accepted_shifted n Accepted e = refl
-accepted_shifted n (Refused r) e = never (cc)
+accepted_shifted : (n : ℕ) (v : Result (Unit {0}) Refusal) → shifted_verdict n v ≡ Ok tt → v ≡ Ok tt
+accepted_shifted n (Ok tt) e = refl
+accepted_shifted n (Err r) e = never (cc)
 
 -- ---- the loop: i of k streams are rewritten and end at `to`, the next to read is at `from`; s was the buffer at first, d is it now
 pub record Repacking (s : List ℕ) (len k : ℕ) (d : List ℕ) (to from i : ℕ) : Type 0 where
@@ -163,7 +163,7 @@ module _ (s : List ℕ) (len k : ℕ) where
         rest = ahead_none (repack_streams k (take len s));
       }
 
-  module _ (fits : len ≤ length s) (short : len ≤ 65535) (good : verdict_of (repack_streams k (take len s)) ≡ Accepted) (d : List ℕ) (to from i : ℕ)
+  module _ (fits : len ≤ length s) (short : len ≤ 65535) (good : verdict_of (repack_streams k (take len s)) ≡ Ok tt) (d : List ℕ) (to from i : ℕ)
       (z : Repacking s len k d to from i) where
     -- what is left to read
     abbrev rest : List ℕ
@@ -179,14 +179,14 @@ module _ (s : List ℕ) (len k : ℕ) where
     pub in_places : (to ≤ from) × (from ≤ len) × (len ≤ length d) × (len ≤ 65535)
     in_places = (z.behind, z.inside, omega (arith, same_size), short)
 
-    verdict_is : verdict_of (repack_streams z.left rest) ≡ Accepted
+    verdict_is : verdict_of (repack_streams z.left rest) ≡ Ok tt
     verdict_is =
         accepted_shifted from (verdict_of (repack_streams z.left rest))
         (sym (ahead_verdict z.done from (repack_streams z.left rest)) ∙ (ap verdict_of z.rest ∙ good))
 
     -- the next stream, by the delimiting
     module _ (sd : Bool) (next : List ℕ → Repacked) (e : repack_streams z.left rest ≡ repack_reading sd next rest (read sd rest)) where
-      good_reading : verdict_of (repack_reading sd next rest (read sd rest)) ≡ Accepted
+      good_reading : verdict_of (repack_reading sd next rest (read sd rest)) ≡ Ok tt
       good_reading = ap verdict_of (sym e) ∙ verdict_is
 
       next_reads : is_accepted (read sd (stream d from len)) ≡ true

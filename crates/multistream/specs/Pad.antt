@@ -4,8 +4,8 @@ use Rattle.opus_defines.specs.Rules.{shifted}
 use Rattle.opus_defines.specs.Outcome.{Effect, refusal, wrote, Outcome, leaves}
 use Rattle.packet_pad.specs.Lengths.{lengths_of, bounded, by_lengths}
 use Rattle.packet_pad.specs.Pad.{pad_packet}
-use Rattle.multistream.specs.declared.Passed.{Passed}
-use Rattle.multistream.specs.declared.Passed.TheVariants.{Past, Stuck}
+use Rattle.std.specs.Prelude.{Result, Ok, Err}
+use Rattle.opus_defines.specs.declared.Refusal.{Refusal}
 use Rattle.multistream.specs.Streams.{streams_of, pass_streams}
 
 -- the bytes in front stay, and what is written stands behind them; places count them too
@@ -14,9 +14,9 @@ behind front (refusal e) = refusal (shifted (length front) e)
 behind front (wrote n vs) = wrote n (front ++ vs)
 
 -- the last stream, from a place of p on, is padded as a packet is; where no byte is left for it, -1
-abbrev pub pad_last : List ℕ → ℕ → Passed → Effect
-pad_last p new (Stuck e) = refusal e
-pad_last p new (Past at) = behind (take at p) (bounded (λ n. pad_packet (drop at p) (new - at)) (length p - at))
+abbrev pub pad_last : List ℕ → ℕ → Result ℕ Refusal → Effect
+pad_last p new (Err e) = refusal e
+pad_last p new (Ok at) = behind (take at p) (bounded (λ n. pad_packet (drop at p) (new - at)) (length p - at))
 
 unfoldable pub pad_streams : ℕ → List ℕ → ℕ → Effect
 pad_streams k p new = pad_last p new (pass_streams (k - 1) p)

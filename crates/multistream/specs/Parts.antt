@@ -1,28 +1,24 @@
 -- What the parts of the multistream calls answer. Contracts of functions that are not public cite these.
+use Rattle.opus_defines.specs.declared.Refusal.{Refusal}
 use Rattle.std.specs.Prelude.{ℕ, ◌+◌, ◌-◌, List, [], Bool, true, false, length, take, drop}
 use Rattle.opus_defines.specs.Numbers.{refusal_report}
 use Rattle.opus_defines.specs.Rules.{shifted}
-use Rattle.opus_defines.specs.declared.Answer.{Answer}
-use Rattle.opus_defines.specs.declared.Answer.TheVariants.{Number, Refused as Said}
-use Rattle.opus_defines.specs.declared.Verdict.{Verdict}
-use Rattle.opus_defines.specs.declared.Verdict.TheVariants.{Accepted, Refused}
+use Rattle.std.specs.Prelude.{Err, Ok, Result}
 use Rattle.opus_toc.specs.Toc.{upper_six}
 use Rattle.opus_format.specs.Frames.{cut}
 use Rattle.opus_format.specs.Reading.{Reading, refused, accepted, read}
 use Rattle.opus_header.specs.Compact.{compact}
 use Rattle.multistream.specs.Unpad.{Repacked, unread, repacked}
-use Rattle.multistream.specs.declared.Passed.{Passed}
-use Rattle.multistream.specs.declared.Passed.TheVariants.{Past, Stuck}
 use Rattle.multistream.specs.declared.Places.{Places}
 
 -- the bytes that were passed, or the place of what cannot be read
-abbrev pub reach : Passed → ℕ
-reach (Past n) = n
-reach (Stuck e) = (refusal_report e).place
+abbrev pub reach : Result ℕ Refusal → ℕ
+reach (Ok n) = n
+reach (Err e) = (refusal_report e).place
 
-abbrev pub shifted_answer : ℕ → Answer → Answer
-shifted_answer n (Number k) = Number k
-shifted_answer n (Said e) = Said (shifted n e)
+abbrev pub shifted_answer : ℕ → Result ℕ Refusal → Result ℕ Refusal
+shifted_answer n (Ok k) = Ok k
+shifted_answer n (Err e) = Err (shifted n e)
 
 -- what is left from a place on, of the first len bytes
 abbrev pub stream : List ℕ → ℕ → ℕ → List ℕ
@@ -48,13 +44,13 @@ abbrev pub next_places : ℕ → ℕ → Bool → List ℕ → Places
 next_places to from sd s = record { to = to + length (compact_of sd s); from = from + taken_by (read sd s) }
 
 -- whether all streams can be read
-abbrev pub verdict_by : Passed → Verdict
-verdict_by (Past n) = Accepted
-verdict_by (Stuck e) = Refused e
+abbrev pub verdict_by : Result ℕ Refusal → Result (Unit {0}) Refusal
+verdict_by (Ok n) = (Ok tt)
+verdict_by (Err e) = Err e
 
-abbrev pub verdict_of : Repacked → Verdict
-verdict_of (unread e) = Refused e
-verdict_of (repacked q) = Accepted
+abbrev pub verdict_of : Repacked → Result (Unit {0}) Refusal
+verdict_of (unread e) = Err e
+verdict_of (repacked q) = (Ok tt)
 
 abbrev pub packed_of : Repacked → List ℕ
 packed_of (unread e) = []

@@ -2,8 +2,8 @@
 use Rattle.std.specs.Prelude.{ℕ, zero, suc, ◌+◌, List, true, cond, ltb, ℤ, pos, negsuc, drop}
 use Rattle.opus_defines.specs.Rules.{rule_refusal, shifted}
 use Rattle.opus_format.specs.Reading.{Reading, refused, accepted, read}
-use Rattle.multistream.specs.declared.Passed.{Passed}
-use Rattle.multistream.specs.declared.Passed.TheVariants.{Past, Stuck}
+use Rattle.std.specs.Prelude.{Result, Ok, Err}
+use Rattle.opus_defines.specs.declared.Refusal.{Refusal}
 
 -- the stream count, and 0 where it is not 1 to 255
 abbrev pub streams_of : ℤ → ℕ
@@ -11,20 +11,20 @@ streams_of (negsuc n) = 0
 streams_of (pos n) = cond (ltb 255 n) 0 n
 
 -- the bytes of a stream that was read
-abbrev pub pass_by : Reading → Passed
-pass_by (refused rule place) = Stuck (rule_refusal rule place)
-pass_by (accepted toc ns first taken) = Past taken
+abbrev pub pass_by : Reading → Result ℕ Refusal
+pass_by (refused rule place) = Err (rule_refusal rule place)
+pass_by (accepted toc ns first taken) = Ok taken
 
 -- so many bytes more; the place of a stream that cannot be read is counted from the packet's front
-abbrev pub further : ℕ → Passed → Passed
-further n (Past at) = Past (n + at)
-further n (Stuck e) = Stuck (shifted n e)
+abbrev pub further : ℕ → Result ℕ Refusal → Result ℕ Refusal
+further n (Ok at) = Ok (n + at)
+further n (Err e) = Err (shifted n e)
 
-abbrev pub then_pass : (List ℕ → Passed) → List ℕ → Passed → Passed
-then_pass next s (Past n) = further n (next (drop n s))
-then_pass next s (Stuck e) = Stuck e
+abbrev pub then_pass : (List ℕ → Result ℕ Refusal) → List ℕ → Result ℕ Refusal → Result ℕ Refusal
+then_pass next s (Ok n) = further n (next (drop n s))
+then_pass next s (Err e) = Err e
 
 -- the bytes of the first k streams
-abbrev pub pass_streams : ℕ → List ℕ → Passed
-pass_streams zero s = Past 0
+abbrev pub pass_streams : ℕ → List ℕ → Result ℕ Refusal
+pass_streams zero s = Ok 0
 pass_streams (suc k) s = then_pass (pass_streams k) s (pass_by (read true s))

@@ -2,99 +2,87 @@
 // rewritten stream never reaches an unread byte, since none is longer than it was.
 #![tactic(auto)]
 
-ghost use Rattle.std.specs.Prelude.{◌≡◌, true, ◌+◌, ◌<◌, ◌≤◌, length, take};
+ghost use Rattle.std.specs.Prelude.{◌≡◌, Ok, true, ◌+◌, ◌<◌, ◌≤◌, length, take};
 ghost use Rattle.std.proofs.lemmas.List.Edits.{sets};
 ghost use Rattle.opus_defines.specs.Numbers.{report_of};
 ghost use Rattle.opus_defines.specs.Outcome.{leaves};
-ghost use Rattle.opus_defines.specs.declared.Verdict.TheVariants.{Accepted};
 ghost use Rattle.opus_format.specs.Reading.{read};
 ghost use Rattle.multistream.specs.Streams.{streams_of, pass_by, further, pass_streams};
 ghost use Rattle.multistream.specs.Pad.{pad_last, pad_streams, streams_padded};
 ghost use Rattle.multistream.specs.Unpad.{repack_streams, unpad_streams, streams_unpadded};
 ghost use Rattle.multistream.specs.Parts.{reach, shifted_answer, stream, compact_of, is_accepted, next_places, verdict_by, verdict_of, packed_of};
 
-use opus_defines::{Answer, Count, Refusal, Report, Verdict};
+use opus_defines::{Refusal, Report};
 use packet_pad::lengths::{Lengths, length_of, lengths_of};
 
-// The bytes of the first streams, or why one of them cannot be read.
-#[derive(Clone, Copy)]
-pub enum Passed {
-    Past(usize),
-    Stuck(Refusal),
-}
-
-// Reads the stream at the front of `data`.
-fn pass_stream(data: &[u8], self_delimited: bool) -> Passed
+// Reads the stream at the front of `data`, and answers its bytes.
+fn pass_stream(data: &[u8], self_delimited: bool) -> Result<usize, Refusal>
     requires { length «data».now ≤ 65535 }
     ensures { result ≡ pass_by (read self_delimited «data».now) }
 {
     let mut lengths = [0u16; 48];
-    let p = opus::read_into(data, self_delimited, &mut lengths);
-    let v = p.verdict;
-    let Verdict::Refused(e) = v else {
-        return Passed::Past(p.taken);
-    };
-    Passed::Stuck(e)
+    match opus::read_into(data, self_delimited, &mut lengths) {
+        Ok(p) => Ok(p.taken),
+        Err(e) => Err(e),
+    }
 }
 
 // The same counted from so many bytes before it.
-fn further_on(p: Passed, by: usize) -> Passed
+fn further_on(p: Result<usize, Refusal>, by: usize) -> Result<usize, Refusal>
     requires { by + reach p < 65536 }
     ensures { result ≡ further by p }
 {
     match p {
-        Passed::Past(n) => Passed::Past(by + n),
-        Passed::Stuck(e) => Passed::Stuck(opus_defines::shift(e, by)),
+        Ok(n) => Ok(by + n),
+        Err(e) => Err(opus_defines::shift(e, by)),
     }
 }
 
-// Reads the first k streams, which are self-delimited.
+// Reads the first k streams, which are self-delimited, and answers their bytes, or why one of them cannot be read.
 #[tactic(auto, using(crate::proofs::Passing::reach_fits))]
-pub fn pass_streams(data: &[u8], k: usize) -> Passed
+pub fn pass_streams(data: &[u8], k: usize) -> Result<usize, Refusal>
     requires { length «data».now ≤ 65535 }
     ensures { result ≡ pass_streams k «data».now }
 {
     let mut at: usize = 0;
-    let mut i: usize = 0;
-    while i < k {
+    for _ in 0..k {
         let p = pass_stream(&data[at..], true);
-        let Passed::Past(taken) = p else {
+        let Ok(taken) = p else {
             return further_on(p, at);
         };
         at += taken;
-        i += 1;
     }
-    Passed::Past(at)
+    Ok(at)
 }
 
 // What a call on a part of the buffer answers, with places counted from the buffer's front.
-fn shift_answer(a: Answer, by: usize) -> Answer
+fn shift_answer(a: Result<u16, Refusal>, by: usize) -> Result<u16, Refusal>
     requires { (report_of a).place + by < 65536 }
     ensures { result ≡ shifted_answer by a }
 {
     match a {
-        Answer::Number(n) => Answer::Number(n),
-        Answer::Refused(e) => Answer::Refused(opus_defines::shift(e, by)),
+        Ok(n) => Ok(n),
+        Err(e) => Err(opus_defines::shift(e, by)),
     }
 }
 
 // Pads the last stream, which stands at a place.
-fn pad_last(data: &mut [u8], len: usize, new_len: usize, at: usize) -> Answer
+fn pad_last(data: &mut [u8], len: usize, new_len: usize, at: usize) -> Result<u16, Refusal>
     requires { (at ≤ len) × (len < new_len) × (new_len ≤ length «data».old) × (new_len ≤ 65535) }
     ensures report { report_of result
-        ≡ (leaves «data».old (pad_last (take len «data».old) new_len (Passed.Past at))).report }
+        ≡ (leaves «data».old (pad_last (take len «data».old) new_len (Ok at))).report }
     ensures bytes { «data».new
-        ≡ (leaves «data».old (pad_last (take len «data».old) new_len (Passed.Past at))).bytes }
+        ≡ (leaves «data».old (pad_last (take len «data».old) new_len (Ok at))).bytes }
 {
     if at == len {
-        return Answer::Refused(Refusal::BadArg);
+        return Err(Refusal::BadArg);
     }
     let a = packet_pad::pad_packet(&mut data[at..], len - at, new_len - at);
     shift_answer(a, at)
 }
 
 // The packet in the first `len` bytes, padded to more in its last stream.
-fn pad_streams(data: &mut [u8], len: usize, new_len: usize, streams: usize) -> Answer
+fn pad_streams(data: &mut [u8], len: usize, new_len: usize, streams: usize) -> Result<u16, Refusal>
     requires { (len < new_len) × (new_len ≤ length «data».old) × (new_len ≤ 65535) × (1 ≤ streams) }
     ensures report { report_of result ≡ (leaves «data».old (pad_streams streams (take len «data».old) new_len)).report }
     ensures bytes { «data».new
@@ -102,8 +90,8 @@ fn pad_streams(data: &mut [u8], len: usize, new_len: usize, streams: usize) -> A
 {
     let p = pass_streams(&data[..len], streams - 1);
     match p {
-        Passed::Past(at) => pad_last(data, len, new_len, at),
-        Passed::Stuck(e) => Answer::Refused(e),
+        Ok(at) => pad_last(data, len, new_len, at),
+        Err(e) => Err(e),
     }
 }
 
@@ -112,7 +100,7 @@ fn pad_streams(data: &mut [u8], len: usize, new_len: usize, streams: usize) -> A
 pub fn streams_of(nb_streams: i32) -> usize
     ensures { result ≡ streams_of nb_streams }
 {
-    let Count::Is(n) = opus_defines::count_of(nb_streams) else {
+    let Some(n) = opus_defines::count_of(nb_streams) else {
         return 0;
     };
     if 255 < n {
@@ -121,18 +109,18 @@ pub fn streams_of(nb_streams: i32) -> usize
     n
 }
 
-fn pad_answer(data: &mut [u8], len: i32, new_len: i32, nb_streams: i32) -> Answer
+fn pad_answer(data: &mut [u8], len: i32, new_len: i32, nb_streams: i32) -> Result<u16, Refusal>
     ensures report { report_of result ≡ (streams_padded «data».old len new_len nb_streams).report }
     ensures bytes { «data».new ≡ (streams_padded «data».old len new_len nb_streams).bytes }
 {
     let streams = streams_of(nb_streams);
     if streams == 0 {
-        return Answer::Refused(Refusal::BadArg);
+        return Err(Refusal::BadArg);
     }
     let l = lengths_of(data, len, new_len);
     match l {
-        Lengths::Bad => Answer::Refused(Refusal::BadArg),
-        Lengths::Same => Answer::Number(opus_defines::OPUS_OK),
+        Lengths::Bad => Err(Refusal::BadArg),
+        Lengths::Same => Ok(opus_defines::OPUS_OK),
         Lengths::More(n, m) => pad_streams(data, n, m, streams),
     }
 }
@@ -151,12 +139,12 @@ pub fn opus_multistream_packet_pad(
 }
 
 // Reads all streams, k self-delimited ones and the last.
-fn pass_all(data: &[u8], k: usize) -> Passed
+fn pass_all(data: &[u8], k: usize) -> Result<usize, Refusal>
     requires { length «data».now ≤ 65535 }
     ensures { verdict_by result ≡ verdict_of (repack_streams k «data».now) }
 {
     let p = pass_streams(data, k);
-    let Passed::Past(at) = p else {
+    let Ok(at) = p else {
         return p;
     };
     let last = pass_stream(&data[at..], false);
@@ -185,10 +173,9 @@ fn repack_stream(
     ensures next { result ≡ next_places to from self_delimited (stream «data».old from len) }
 {
     let mut lengths = [0u16; 48];
-    let p = opus::read_into(&data[from..len], self_delimited, &mut lengths);
-    let n = p.count;
+    let p = opus::read_into(&data[from..len], self_delimited, &mut lengths).unwrap();
     let first = from - to + p.first;
-    let ns = &lengths[..n];
+    let ns = &lengths[..p.count];
     let bytes = packet_pad::compact_frames(&mut data[to..], p.toc, ns, self_delimited, first);
     Places {
         to: to + bytes,
@@ -198,18 +185,16 @@ fn repack_stream(
 
 // Rewrites all streams, which were read before.
 fn repack_streams(data: &mut [u8], len: usize, k: usize) -> usize
-    requires { (len ≤ length «data».old) × (len ≤ 65535) × (verdict_of (repack_streams k (take len «data».old)) ≡ Accepted) }
+    requires { (len ≤ length «data».old) × (len ≤ 65535) × (verdict_of (repack_streams k (take len «data».old)) ≡ Ok tt) }
     ensures bytes { «data».new ≡ sets «data».old 0 (packed_of (repack_streams k (take len «data».old))) }
     ensures next { result ≡ length (packed_of (repack_streams k (take len «data».old))) }
 {
     let mut to: usize = 0;
     let mut from: usize = 0;
-    let mut i: usize = 0;
-    while i < k {
+    for _ in 0..k {
         let places = repack_stream(data, to, from, len, true);
         to = places.to;
         from = places.from;
-        i += 1;
     }
     let last = repack_stream(data, to, from, len, false);
     last.to
@@ -217,32 +202,32 @@ fn repack_streams(data: &mut [u8], len: usize, k: usize) -> usize
 
 // The packet in the first `len` bytes, with every stream in compact form. A stream's compact form always has room, since it takes no more
 // bytes than the stream (`rebuilds`).
-fn unpad_streams(data: &mut [u8], len: usize, streams: usize) -> Answer
+fn unpad_streams(data: &mut [u8], len: usize, streams: usize) -> Result<u16, Refusal>
     requires { (len ≤ length «data».old) × (len ≤ 65535) × (1 ≤ streams) }
     ensures report { report_of result ≡ (leaves «data».old (unpad_streams streams (take len «data».old))).report }
     ensures bytes { «data».new ≡ (leaves «data».old (unpad_streams streams (take len «data».old))).bytes }
 {
     let p = pass_all(&data[..len], streams - 1);
     match p {
-        Passed::Past(_) => {
+        Ok(_) => {
             let n = repack_streams(data, len, streams - 1);
-            Answer::Number(n as u16)
+            Ok(n as u16)
         }
-        Passed::Stuck(e) => Answer::Refused(e),
+        Err(e) => Err(e),
     }
 }
 
-fn unpad_answer(data: &mut [u8], len: i32, nb_streams: i32) -> Answer
+fn unpad_answer(data: &mut [u8], len: i32, nb_streams: i32) -> Result<u16, Refusal>
     ensures report { report_of result ≡ (streams_unpadded «data».old len nb_streams).report }
     ensures bytes { «data».new ≡ (streams_unpadded «data».old len nb_streams).bytes }
 {
     let streams = streams_of(nb_streams);
     if streams == 0 {
-        return Answer::Refused(Refusal::BadArg);
+        return Err(Refusal::BadArg);
     }
     let n = length_of(data, len);
     if n == 0 {
-        return Answer::Refused(Refusal::BadArg);
+        return Err(Refusal::BadArg);
     }
     unpad_streams(data, n, streams)
 }

@@ -21,8 +21,7 @@ use Rattle.opus_format.specs.Reading.{Front, equal, lasts, Reading, refused, acc
 use Rattle.opus_format.proofs.Sound.{read_spelled}
 use Rattle.opus_format.proofs.Facts.{facts}
 use Rattle.opus_parts.specs.Parts.{padding_at}
-use Rattle.opus_parts.specs.declared.padding_at.PaddingAt.{PaddingAt}
-use Rattle.opus_parts.specs.declared.padding_at.PaddingAt.TheVariants.{Whole, Unfit}
+use Rattle.std.specs.Prelude.{None, Option, Some}
 use Rattle.opus.specs.Answers.{shared_at, equal_of, equal_at}
 use Rattle.opus.specs.declared.code_3.Equal.{Equal}
 use Rattle.opus.specs.declared.code_3.Equal.TheVariants.{Same, Wrong, Other}
@@ -101,10 +100,10 @@ module _ (d : List ℕ) (two : 2 ≤ length d) (c : code (get_or d 0 0) ≡ 3) (
       within : equal_at d ≡ equal_of (body false d count)
       within = rw (answer, ← lasting, t)
 
-      pub equal_unfit : padding_at (length (part d 2 (length d))) (padding d) ≡ Unfit → Wrong R6 2 ≡ equal_at d
+      pub equal_unfit : padding_at (length (part d 2 (length d))) (padding d) ≡ None → Wrong R6 2 ≡ equal_at d
       equal_unfit u = sym (within ∙ ap equal_of (sym (body_refused false d count u)) ∙ rw v)
 
-      pub equal_shared : (pad next : ℕ) → padding_at (length (part d 2 (length d))) (padding d) ≡ Whole pad next
+      pub equal_shared : (pad next : ℕ) → padding_at (length (part d 2 (length d))) (padding d) ≡ Some (pad, next)
           → {r : Equal} → r ≡ shared_at (length d - pad - (2 + next)) count (2 + next) → r ≡ equal_at d
       equal_shared pad next w q =
           let s = inner false d count two pad next w in
@@ -132,9 +131,9 @@ front_alike m toc pad count s =
     (λ t. rw t (no R6 _))
 
 module _ (d : List ℕ) (two : 2 ≤ length d) (c : code (get_or d 0 0) ≡ 3) (v : get_or d 1 0 / 128 % 2 ≡ 0) where
-  body_alike : (p : PaddingAt) → padding_at (length (part d 2 (length d))) (padding d) ≡ p → Alike (body false d (get_or d 1 0 % 64))
-  body_alike Unfit u = rw (← body_refused false d (get_or d 1 0 % 64) u) (no _ 2)
-  body_alike (Whole pad next) w =
+  body_alike : (p : Option (ℕ × ℕ)) → padding_at (length (part d 2 (length d))) (padding d) ≡ p → Alike (body false d (get_or d 1 0 % 64))
+  body_alike None u = rw (← body_refused false d (get_or d 1 0 % 64) u) (no _ 2)
+  body_alike (Some (pad, next)) w =
       let s = inner false d (get_or d 1 0 % 64) two pad next w in
       rw (body_reads false d (get_or d 1 0 % 64) two pad next w, frames_equal false (get_or d 1 0 / 128 % 2) (get_or d 1 0 % 64) s v)
       (front_alike (length d) (get_or d 0 0) pad (get_or d 1 0 % 64) s)

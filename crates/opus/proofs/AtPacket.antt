@@ -21,8 +21,9 @@ use borrow.Author.Rules.{part_to_end}
 use Rattle.laws.proofs.Every.{every_at}
 use Rattle.laws.proofs.Never.{never, by_test}
 use Rattle.opus_defines.specs.Rules.{rule_refusal}
+use Rattle.opus_defines.specs.declared.Refusal.{Refusal}
 use Rattle.opus_defines.specs.declared.Refusal.TheVariants.{BadArg}
-use Rattle.opus_defines.specs.declared.Verdict.TheVariants.{Accepted}
+use Rattle.std.specs.Prelude.{Ok, Err, None, Result, Some}
 use Rattle.opus_size.specs.Size.{Field, read_field, no_field, field}
 use Rattle.opus_toc.specs.Toc.{upper_six, configuration, duration, samples}
 use Rattle.opus_toc.proofs.Samples.{lasts_at_lem}
@@ -32,13 +33,9 @@ use Rattle.opus_defines.specs.declared.Rule.TheVariants.{R1, R2, R3, R4, R5, R6,
 use Rattle.opus_format.specs.Reading.{Front, broken, front, no_fields, fields, read_fields, together}
 use Rattle.opus_format.specs.Reading.{unequal, equal, read_padding, frames3, size_rule, lasts, pointed}
 use Rattle.opus_format.specs.Reading.{Reading, refused, accept, behind_padding, read3, read_code, read}
-use Rattle.opus.specs.Answers.{no_packet, packet_of, parsed, answer_of}
+use Rattle.opus.specs.Answers.{packet_of, parsed, answer_of}
 use Rattle.opus_parts.specs.Parts.{sizes_at, SizesRead, frames_at, frames_lent, FramesRead, end_of, padding_at}
-use Rattle.opus.specs.Heads.{no_head, head_at}
-use Rattle.opus_parts.specs.declared.frames_at.FramesAt.{FramesAt}
-use Rattle.opus_parts.specs.declared.frames_at.FramesAt.TheVariants.{At, Broken}
-use Rattle.opus_parts.specs.declared.padding_at.PaddingAt.TheVariants.{Whole, Unfit}
-use Rattle.opus_parts.specs.declared.sizes_at.SizesAt.TheVariants.{All, Cut}
+use Rattle.opus.specs.Heads.{head_at}
 use Rattle.opus.specs.declared.Packet.{Packet}
 use Rattle.opus.specs.declared.PacketHead.{PacketHead}
 use Rattle.opus_size.proofs.At.{Found}
@@ -46,18 +43,18 @@ use Rattle.opus_parts.proofs.AtSizes.{place_is, one_fits, one_over, none_known}
 use Rattle.opus_parts.proofs.AtFrames.{Within, unequal-within, equal-within}
 use Rattle.opus_parts.proofs.AtPadding.{Padded, padding_was}
 
-module _ (toc count at pad : ℕ) (f : FramesAt) where
-  pub head_found : (first sum : ℕ) → f ≡ At first sum
-      → record { verdict = Accepted; toc = toc; count = count; first = at + first; taken = at + first + sum + pad } ≡ head_at toc count at pad f
+module _ (toc count at pad : ℕ) (f : Result (ℕ × ℕ) (Rule × ℕ)) where
+  pub head_found : (first sum : ℕ) → f ≡ Ok (first, sum)
+      → Ok (record { toc = toc; count = count; first = at + first; taken = at + first + sum + pad }) ≡ head_at toc count at pad f
   head_found first sum e = rw e
 
-  pub head_broken : (r : Rule) (place : ℕ) → f ≡ Broken r place → no_head (rule_refusal r (pointed r (at + place))) ≡ head_at toc count at pad f
+  pub head_broken : (r : Rule) (place : ℕ) → f ≡ Err (r, place) → Err (rule_refusal r (pointed r (at + place))) ≡ head_at toc count at pad f
   head_broken r place e = rw e
 
-pub end_found : (f : FramesAt) (first sum : ℕ) → f ≡ At first sum → end_of f ≡ first + sum
+pub end_found : (f : Result (ℕ × ℕ) (Rule × ℕ)) (first sum : ℕ) → f ≡ Ok (first, sum) → end_of f ≡ first + sum
 end_found f first sum e = rw e
 
-pub end_broken : (f : FramesAt) (r : Rule) (place : ℕ) → f ≡ Broken r place → end_of f ≡ place
+pub end_broken : (f : Result (ℕ × ℕ) (Rule × ℕ)) (r : Rule) (place : ℕ) → f ≡ Err (r, place) → end_of f ≡ place
 end_broken f r place e = rw e
 
 -- the place of what breaks in the n bytes behind `at` bytes, where m bytes are these and the padding; the field concerned is within them
@@ -68,7 +65,7 @@ head_place m n at pad k h e = omega arith
 packet_of_lem : (m n toc count at pad : ℕ) (r : Front) (l : List ℕ) → Within n count r → frames_lent r l → m ≡ at + n + pad
     → answer_of (head_at toc count at pad (frames_at n r)) l ≡ packet_of (accept m toc pad r)
 packet_of_lem m n toc count at pad (broken r t) l w g e =
-    ap (λ place. no_packet (rule_refusal r (pointed r place))) (sym (head_place m n at pad (length t) w e))
+    ap (λ place. Err (rule_refusal r (pointed r place))) (sym (head_place m n at pad (length t) w e))
 packet_of_lem m n toc count at pad (front ns t) l w g e =
     let first : m - pad - length t ≡ at + (n - length t) = omega arith in
     rw (first, g, w.2)
@@ -78,7 +75,7 @@ packet_fits m n count at pad (broken r t) w e = omega arith
 packet_fits m n count at pad (front ns t) w e = omega arith
 
 -- the same of an answer f that is those frames, with their lengths in the array
-module _ (s : List ℕ) (m toc count at pad : ℕ) (r : Front) (w : Within (length s) count r) (e : m ≡ at + length s + pad) (f : FramesAt) (l : List ℕ)
+module _ (s : List ℕ) (m toc count at pad : ℕ) (r : Front) (w : Within (length s) count r) (e : m ≡ at + length s + pad) (f : Result (ℕ × ℕ) (Rule × ℕ)) (l : List ℕ)
     (g : FramesRead s r f l) where
   answer_of_lem : answer_of (head_at toc count at pad f) l ≡ packet_of (accept m toc pad r)
   answer_of_lem = rw g.0 (packet_of_lem m (length s) toc count at pad r l w g.1 e)
@@ -89,29 +86,29 @@ module _ (s : List ℕ) (m toc count at pad : ℕ) (r : Front) (w : Within (leng
 -- ---- length fields of which one breaks, or which are too long together
 cut_refused : (s : List ℕ) (sd : Bool) (r : Rule) (k m toc pad place : ℕ) (t : List ℕ) → together (read_fields k s) ≡ no_fields t
     → place ≡ pointed r (m - pad - length t)
-    → no_packet (rule_refusal r place) ≡ packet_of (accept m toc pad (unequal sd r k s))
+    → Err (rule_refusal r place) ≡ packet_of (accept m toc pad (unequal sd r k s))
 cut_refused s sd r k m toc pad place t q e = rw (q, e)
 
 -- ---- code 3 with its flag for unequal lengths, whose frames stand in s behind `at` bytes
-pub uneven_place : (s : List ℕ) (k place : ℕ) → Cut place ≡ sizes_at (length s) (together (read_fields k s)) → place ≤ length s
+pub uneven_place : (s : List ℕ) (k place : ℕ) → Err place ≡ sizes_at (length s) (together (read_fields k s)) → place ≤ length s
 uneven_place s k place c = omega (arith, (none_known s k place c).2)
 
 module _ (s : List ℕ) (sd : Bool) (toc count at pad : ℕ) (one : 1 ≤ count) where
   uneven_within : Within (length s) count (unequal sd R7 (count - 1) s)
   uneven_within = unequal-within s count sd R7 (count - 1) (omega arith)
 
-  pub uneven_cut : (place : ℕ) → Cut place ≡ sizes_at (length s) (together (read_fields (count - 1) s))
-      → no_packet (rule_refusal R7 (at + place)) ≡ packet_of (accept (at + length s + pad) toc pad (unequal sd R7 (count - 1) s))
+  pub uneven_cut : (place : ℕ) → Err place ≡ sizes_at (length s) (together (read_fields (count - 1) s))
+      → Err (rule_refusal R7 (at + place)) ≡ packet_of (accept (at + length s + pad) toc pad (unequal sd R7 (count - 1) s))
   uneven_cut place c =
       let b = none_known s (count - 1) place c in
       let inside : length b.0 ≤ length s = rw b.1 at uneven_within in
       cut_refused s sd R7 (count - 1) (at + length s + pad) toc pad (at + place) b.0 b.1 (omega (arith, b.2))
 
-  module _ (f : FramesAt) (l : List ℕ) (g : FramesRead s (unequal sd R7 (count - 1) s) f l) where
+  module _ (f : Result (ℕ × ℕ) (Rule × ℕ)) (l : List ℕ) (g : FramesRead s (unequal sd R7 (count - 1) s) f l) where
     pub uneven_fits : at + end_of f + pad ≤ at + length s + pad
     uneven_fits = answer_fits s (at + length s + pad) toc count at pad (unequal sd R7 (count - 1) s) uneven_within refl f l g
 
-    pub uneven_read : (h : PacketHead) → h ≡ head_at toc count at pad f
+    pub uneven_read : (h : Result PacketHead Refusal) → h ≡ head_at toc count at pad f
         → answer_of h l ≡ packet_of (accept (at + length s + pad) toc pad (unequal sd R7 (count - 1) s))
     uneven_read h e =
         rw e (answer_of_lem s (at + length s + pad) toc count at pad (unequal sd R7 (count - 1) s) uneven_within refl f l g)
@@ -132,7 +129,7 @@ frames_unequal : (sd : Bool) (v count : ℕ) (s : List ℕ) → (v ≡ 0 → ⊥
 frames_unequal sd zero count s n = absurd (n refl)
 frames_unequal sd (suc v) count s n = refl
 
-unfit_refused : (sd : Bool) (k m toc v count : ℕ) (f : Field) → padding_at k f ≡ Unfit → refused (size_rule v) 2 ≡ behind_padding sd m toc v count f
+unfit_refused : (sd : Bool) (k m toc v count : ℕ) (f : Field) → padding_at k f ≡ None → refused (size_rule v) 2 ≡ behind_padding sd m toc v count f
 unfit_refused sd k m toc v count no_field e = refl
 unfit_refused sd k m toc v count (field pad t) e = by_test (ltb (length t) pad) (λ b. rw b) (λ b. never (let q = rw b at e in cc))
 
@@ -148,16 +145,16 @@ abbrev pub padding : List ℕ → Field
 padding d = read_padding (get_or d 1 0 / 64 % 2) (part d 2 (length d))
 
 module _ (sd : Bool) (d : List ℕ) (count : ℕ) where
-  pub body_refused : padding_at (length (part d 2 (length d))) (padding d) ≡ Unfit → refused (size_rule (get_or d 1 0 / 128 % 2)) 2 ≡ body sd d count
+  pub body_refused : padding_at (length (part d 2 (length d))) (padding d) ≡ None → refused (size_rule (get_or d 1 0 / 128 % 2)) 2 ≡ body sd d count
   body_refused e =
       unfit_refused sd (length (drop 2 d)) (length d) (get_or d 0 0) (get_or d 1 0 / 128 % 2) count (read_padding (get_or d 1 0 / 64 % 2) (drop 2 d))
       (rw (part_to_end d 2) at e)
 
-  pub body_unfit : padding_at (length (part d 2 (length d))) (padding d) ≡ Unfit
-      → no_packet (rule_refusal (size_rule (get_or d 1 0 / 128 % 2)) 2) ≡ packet_of (body sd d count)
+  pub body_unfit : padding_at (length (part d 2 (length d))) (padding d) ≡ None
+      → Err (rule_refusal (size_rule (get_or d 1 0 / 128 % 2)) 2) ≡ packet_of (body sd d count)
   body_unfit e = ap packet_of (body_refused e)
 
-  module _ (h : 2 ≤ length d) (pad next : ℕ) (e : padding_at (length (part d 2 (length d))) (padding d) ≡ Whole pad next) where
+  module _ (h : 2 ≤ length d) (pad next : ℕ) (e : padding_at (length (part d 2 (length d))) (padding d) ≡ Some (pad, next)) where
     was : Padded (get_or d 1 0 / 64 % 2) (drop 2 d) pad next
     was = padding_was (get_or d 1 0 / 64 % 2) (drop 2 d) pad next (rw (part_to_end d 2) at e)
 
@@ -187,14 +184,14 @@ module _ (sd : Bool) (d : List ℕ) (count : ℕ) where
     unfolding inner
     body_bytes = sym all_bytes
 
-    module _ (f : FramesAt) (l : List ℕ)
+    module _ (f : Result (ℕ × ℕ) (Rule × ℕ)) (l : List ℕ)
         (g : FramesRead (part d (2 + next) (length d - pad)) (equal sd R6 count (part d (2 + next) (length d - pad))) f l) where
       pub body_fits : 2 + next + end_of f + pad ≤ length d
       unfolding inner
       body_fits =
           answer_fits inner (length d) (get_or d 0 0) count (2 + next) pad (equal sd R6 count inner) (equal-within inner count sd R6) all_bytes f l g
 
-      pub body_equal : get_or d 1 0 / 128 % 2 ≡ 0 → (h : PacketHead) → h ≡ head_at (get_or d 0 0) count (2 + next) pad f
+      pub body_equal : get_or d 1 0 / 128 % 2 ≡ 0 → (h : Result PacketHead Refusal) → h ≡ head_at (get_or d 0 0) count (2 + next) pad f
           → answer_of h l ≡ packet_of (body sd d count)
       unfolding inner
       body_equal v h e =
@@ -202,7 +199,7 @@ module _ (sd : Bool) (d : List ℕ) (count : ℕ) where
           (answer_of_lem inner (length d) (get_or d 0 0) count (2 + next) pad (equal sd R6 count inner) (equal-within inner count sd R6) all_bytes f l g)
 
     -- what the packet with its flag is, counted from what stands before and behind its frames
-    pub body_unequal : (get_or d 1 0 / 128 % 2 ≡ 0 → ⊥) → (x : Packet)
+    pub body_unequal : (get_or d 1 0 / 128 % 2 ≡ 0 → ⊥) → (x : Result Packet Refusal)
         → x ≡ packet_of (accept (2 + next + length (part d (2 + next) (length d - pad)) + pad) (get_or d 0 0) pad
         (unequal sd R7 (count - 1) (part d (2 + next) (length d - pad))))
         → x ≡ packet_of (body sd d count)
@@ -233,23 +230,23 @@ module _ (sd : Bool) where
   three_is (toc ∷ []) h = absurd (omega arith)
   three_is (toc ∷ c ∷ s) h = refl
 
-  pub three_short : (d : List ℕ) → length d < 2 → no_packet (rule_refusal R5 1) ≡ packet_of (read3 sd (length d) (get_or d 0 0) (drop 1 d))
+  pub three_short : (d : List ℕ) → length d < 2 → Err (rule_refusal R5 1) ≡ packet_of (read3 sd (length d) (get_or d 0 0) (drop 1 d))
   three_short [] h = refl
   three_short (toc ∷ []) h = refl
   three_short (toc ∷ c ∷ s) h = absurd (omega arith)
 
   module _ (d : List ℕ) (h : 2 ≤ length d) where
-    pub three_none : get_or d 1 0 % 64 ≡ 0 → no_packet (rule_refusal R5 1) ≡ packet_of (read3 sd (length d) (get_or d 0 0) (drop 1 d))
+    pub three_none : get_or d 1 0 % 64 ≡ 0 → Err (rule_refusal R5 1) ≡ packet_of (read3 sd (length d) (get_or d 0 0) (drop 1 d))
     three_none z = rw (three_is d h, z)
 
     module _ (z : get_or d 1 0 % 64 ≡ 0 → ⊥) (n : ℕ) (b : get_or d 0 0 < 256) (e : n ≡ samples 48000 (configuration (get_or d 0 0))) where
       lasting : leb (get_or d 1 0 % 64 * n) 5760 ≡ lasts (upper_six (get_or d 0 0)) (get_or d 1 0 % 64)
       lasting = lasts_is (get_or d 0 0) (get_or d 1 0 % 64) n b e z
 
-      pub three_long : leb (get_or d 1 0 % 64 * n) 5760 ≡ false → no_packet (rule_refusal R5 1) ≡ packet_of (read3 sd (length d) (get_or d 0 0) (drop 1 d))
+      pub three_long : leb (get_or d 1 0 % 64 * n) 5760 ≡ false → Err (rule_refusal R5 1) ≡ packet_of (read3 sd (length d) (get_or d 0 0) (drop 1 d))
       three_long t = rw (three_is d h, ← lasting, t)
 
-      pub three_read : leb (get_or d 1 0 % 64 * n) 5760 ≡ true → (x : Packet) → x ≡ packet_of (body sd d (get_or d 1 0 % 64))
+      pub three_read : leb (get_or d 1 0 % 64 * n) 5760 ≡ true → (x : Result Packet Refusal) → x ≡ packet_of (body sd d (get_or d 1 0 % 64))
           → x ≡ packet_of (read3 sd (length d) (get_or d 0 0) (drop 1 d))
       three_read t x e = rw (three_is d h, ← lasting, t) e
 
@@ -263,7 +260,7 @@ module _ (d : List ℕ) (h : 1 ≤ length d) (count : ℕ) (r : List ℕ → Fro
   unfolding rest
   all_rest = rw (part_to_end d 1) (omega (arith, length-drop 1 d))
 
-  module _ (f : FramesAt) (l : List ℕ) (g : FramesRead (part d 1 (length d)) (r (part d 1 (length d))) f l) where
+  module _ (f : Result (ℕ × ℕ) (Rule × ℕ)) (l : List ℕ) (g : FramesRead (part d 1 (length d)) (r (part d 1 (length d))) f l) where
     rest_fits : 1 + end_of f + 0 ≤ length d
     unfolding rest
     rest_fits = answer_fits rest (length d) 0 count 1 0 (r rest) (w rest) all_rest f l g
@@ -286,7 +283,7 @@ abbrev equal_in : Bool → List ℕ → Front
 equal_in sd s = equal sd R3 2 s
 
 -- no length field was read
-pub no_fields_lem : (s l : List ℕ) → l ≡ padded48 [] → SizesRead s (together (read_fields 0 s)) (All 0 0) l
+pub no_fields_lem : (s l : List ℕ) → l ≡ padded48 [] → SizesRead s (together (read_fields 0 s)) (Ok (0, 0)) l
 no_fields_lem s l e =
     let none : ltb (length s) (total []) ≡ false = le-ltb (length s) (total []) (omega arith) in
     let start : length s - length s ≡ 0 = omega arith in
@@ -301,14 +298,14 @@ module _ (s : List ℕ) where
     one_long : length s - next < n → together (read_fields 1 s) ≡ no_fields s
     one_long h = ap together (one_over s 0 n next 0 f h)
 
-    pub one_field : n ≤ length s - next → (l : List ℕ) → l ≡ padded48 [] → SizesRead s (together (read_fields 1 s)) (All next n) (set l 0 n)
+    pub one_field : n ≤ length s - next → (l : List ℕ) → l ≡ padded48 [] → SizesRead s (together (read_fields 1 s)) (Ok (next, n)) (set l 0 n)
     one_field h l e =
         let fits : ltb (length (drop next s)) (n + 0) ≡ false = le-ltb (length (drop next s)) (n + 0) (omega (arith, length-drop next s)) in
         let all : together (read_fields 1 s) ≡ fields (n ∷ []) (drop next s) = ap together (one_fits s 0 n next 0 f h) ∙ rw fits in
-        rw (all, place_is s next f.within, e) (ap (All next) (sym (add-zero n)), refl)
+        rw (all, place_is s next f.within, e) (ap (λ (t : ℕ). Ok (next, t)) (sym (add-zero n)), refl)
 
 module _ (sd : Bool) (d : List ℕ) (h : 1 ≤ length d) where
-  module _ (k count : ℕ) (c : k + 1 ≡ count) (r : Rule) (f : FramesAt) (l : List ℕ)
+  module _ (k count : ℕ) (c : k + 1 ≡ count) (r : Rule) (f : Result (ℕ × ℕ) (Rule × ℕ)) (l : List ℕ)
       (g : FramesRead (part d 1 (length d)) (unequal_in sd r k (part d 1 (length d))) f l) where
     pub unequal-fits : 1 + end_of f + 0 ≤ length d
     unequal-fits = rest_fits d h count (unequal_in sd r k) (λ s. unequal-within s count sd r k c) f l g
@@ -316,33 +313,33 @@ module _ (sd : Bool) (d : List ℕ) (h : 1 ≤ length d) where
     unequal_read : answer_of (head_at (get_or d 0 0) count 1 0 f) l ≡ packet_of (accept (length d) (get_or d 0 0) 0 (unequal_in sd r k (drop 1 d)))
     unequal_read = rest_read d h count (unequal_in sd r k) (λ s. unequal-within s count sd r k c) f l g
 
-  pub code_0 : (f : FramesAt) (l : List ℕ) → FramesRead (part d 1 (length d)) (unequal_in sd R2 0 (part d 1 (length d))) f l
-      → (x : PacketHead) → x ≡ head_at (get_or d 0 0) 1 1 0 f → get_or d 0 0 % 4 ≡ 0 → answer_of x l ≡ packet_of (read sd d)
+  pub code_0 : (f : Result (ℕ × ℕ) (Rule × ℕ)) (l : List ℕ) → FramesRead (part d 1 (length d)) (unequal_in sd R2 0 (part d 1 (length d))) f l
+      → (x : Result PacketHead Refusal) → x ≡ head_at (get_or d 0 0) 1 1 0 f → get_or d 0 0 % 4 ≡ 0 → answer_of x l ≡ packet_of (read sd d)
   code_0 f l g x y e = rw (y, by_code sd d h, e) (unequal_read 0 1 refl R2 f l g)
 
-  module _ (f : FramesAt) (l : List ℕ) (g : FramesRead (part d 1 (length d)) (equal_in sd (part d 1 (length d))) f l) where
+  module _ (f : Result (ℕ × ℕ) (Rule × ℕ)) (l : List ℕ) (g : FramesRead (part d 1 (length d)) (equal_in sd (part d 1 (length d))) f l) where
     pub equal-fits : 1 + end_of f + 0 ≤ length d
     equal-fits = rest_fits d h 2 (equal_in sd) (λ s. equal-within s 2 sd R3) f l g
 
-    pub code_1 : (x : PacketHead) → x ≡ head_at (get_or d 0 0) 2 1 0 f → get_or d 0 0 % 4 ≡ 1 → answer_of x l ≡ packet_of (read sd d)
+    pub code_1 : (x : Result PacketHead Refusal) → x ≡ head_at (get_or d 0 0) 2 1 0 f → get_or d 0 0 % 4 ≡ 1 → answer_of x l ≡ packet_of (read sd d)
     code_1 x y e = rw (y, by_code sd d h, e) (rest_read d h 2 (equal_in sd) (λ s. equal-within s 2 sd R3) f l g)
 
   two_cut : together (read_fields 1 (part d 1 (length d))) ≡ no_fields (part d 1 (length d))
-      → no_packet (rule_refusal R4 1) ≡ packet_of (accept (length d) (get_or d 0 0) 0 (unequal sd R4 1 (drop 1 d)))
+      → Err (rule_refusal R4 1) ≡ packet_of (accept (length d) (get_or d 0 0) 0 (unequal sd R4 1 (drop 1 d)))
   two_cut c =
       let b : together (read_fields 1 (drop 1 d)) ≡ no_fields (drop 1 d) = rw (part_to_end d 1) at c in
       cut_refused (drop 1 d) sd R4 1 (length d) (get_or d 0 0) 0 1 (drop 1 d) b (omega (arith, length-drop 1 d))
 
   pub two_none : read_field (part d 1 (length d)) ≡ no_field
-      → no_packet (rule_refusal R4 1) ≡ packet_of (accept (length d) (get_or d 0 0) 0 (unequal sd R4 1 (drop 1 d)))
+      → Err (rule_refusal R4 1) ≡ packet_of (accept (length d) (get_or d 0 0) 0 (unequal sd R4 1 (drop 1 d)))
   two_none e = two_cut (one_none (part d 1 (length d)) e)
 
   pub two_over : (n next : ℕ) → Found (part d 1 (length d)) 0 n next → length (part d 1 (length d)) - next < n
-      → no_packet (rule_refusal R4 1) ≡ packet_of (accept (length d) (get_or d 0 0) 0 (unequal sd R4 1 (drop 1 d)))
+      → Err (rule_refusal R4 1) ≡ packet_of (accept (length d) (get_or d 0 0) 0 (unequal sd R4 1 (drop 1 d)))
   two_over n next f over = two_cut (one_long (part d 1 (length d)) n next f over)
 
-  pub two_read : (f : FramesAt) (l : List ℕ) → FramesRead (part d 1 (length d)) (unequal_in sd R4 1 (part d 1 (length d))) f l
-      → (x : PacketHead) → x ≡ head_at (get_or d 0 0) 2 1 0 f
+  pub two_read : (f : Result (ℕ × ℕ) (Rule × ℕ)) (l : List ℕ) → FramesRead (part d 1 (length d)) (unequal_in sd R4 1 (part d 1 (length d))) f l
+      → (x : Result PacketHead Refusal) → x ≡ head_at (get_or d 0 0) 2 1 0 f
       → answer_of x l ≡ packet_of (accept (length d) (get_or d 0 0) 0 (unequal sd R4 1 (drop 1 d)))
   two_read f l g x y = rw y (unequal_read 1 2 refl R4 f l g)
 
@@ -355,11 +352,11 @@ module _ (sd : Bool) (d : List ℕ) (h : 1 ≤ length d) where
 
 -- ---- the tests on the length
 module _ (sd : Bool) where
-  pub parse_long : (d : List ℕ) → 65535 < length d → no_packet BadArg ≡ parsed sd d
+  pub parse_long : (d : List ℕ) → 65535 < length d → Err BadArg ≡ parsed sd d
   unfolding parsed
   parse_long d h = rw (lt-ltb 65535 (length d) h)
 
-  pub parse_empty : (d : List ℕ) → length d ≡ 0 → no_packet (rule_refusal R1 0) ≡ parsed sd d
+  pub parse_empty : (d : List ℕ) → length d ≡ 0 → Err (rule_refusal R1 0) ≡ parsed sd d
   unfolding parsed read
   parse_empty [] e = refl
   parse_empty (a ∷ d) e = absurd (omega arith)

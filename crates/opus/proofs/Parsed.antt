@@ -14,8 +14,9 @@ use borrow.Author.Tests.{ltb-false, le-ltb}
 use Rattle.laws.proofs.Never.{never, by_test}
 use Rattle.opus_defines.specs.declared.Refusal.{Refusal}
 use Rattle.opus_defines.specs.Rules.{rule_refusal}
-use Rattle.opus_defines.specs.declared.Verdict.TheVariants.{Accepted, Refused}
+use Rattle.std.specs.Prelude.{Err, Ok}
 use Rattle.opus_defines.specs.declared.Rule.{Rule}
+use Rattle.opus_format.specs.Frames.{padded48}
 use Rattle.opus_format.specs.Reading.{Reading, refused, accepted, read}
 use Rattle.opus.specs.Answers.{packet_of, parsed}
 use Rattle.opus.specs.declared.Packet.{Packet}
@@ -31,27 +32,29 @@ pub record Read (sd : Bool) (p : List ℕ) (r : Packet) : Type 0 where
 
 module _ (sd : Bool) (p : List ℕ) where
   read_of : (toc : ℕ) (ns : List ℕ) (first taken : ℕ) → length p ≤ 65535 → read sd p ≡ accepted toc ns first taken
-      → Read sd p (packet_of (accepted toc ns first taken))
+      → Read sd p (record { toc = toc; count = length ns; lengths = padded48 ns; first = first; taken = taken })
   read_of toc ns first taken h q =
       record { short = h; inside = omega (arith, length-append ns (replicate (48 - length ns) 0)); means = rw (take-append_seam ns) q }
 
-  module _ (r : Packet) (e : r ≡ parsed sd p) where
-    pub parsed_accepted : r.verdict ≡ Accepted → Read sd p r
-    unfolding parsed
-    parsed_accepted v =
-        by_test (ltb 65535 (length p)) (λ t. never (let x = rw t at e in cc))
-        (λ t. go (ltb-false 65535 (length p) t) (rw t at e) (read sd p) refl)
-      where
-        go : length p ≤ 65535 → r ≡ packet_of (read sd p) → (x : Reading) → read sd p ≡ x → Read sd p r
-        go h f (refused rule place) q = never (let x = rw q at f in cc)
-        go h f (accepted toc ns first taken) q = rw (rw q at f) (read_of toc ns first taken h q)
+  pub parsed_accepted : (r : Packet) → Ok r ≡ parsed sd p → Read sd p r
+  unfolding parsed
+  parsed_accepted r e =
+      by_test (ltb 65535 (length p)) (λ t. never (let x = rw t at e in cc))
+      (λ t. go (ltb-false 65535 (length p) t) (rw t at e) (read sd p) refl)
+    where
+      go : length p ≤ 65535 → Ok r ≡ packet_of (read sd p) → (x : Reading) → read sd p ≡ x → Read sd p r
+      go h f (refused rule place) q = never (let x = rw q at f in cc)
+      go h f (accepted toc ns first taken) q =
+          let x = rw q at f in
+          let same : r ≡ record { toc = toc; count = length ns; lengths = padded48 ns; first = first; taken = taken } = cc in
+          rw same (read_of toc ns first taken h q)
 
-    pub parsed_refused : (c : Refusal) → r.verdict ≡ Refused c → length p ≤ 65535
-        → (rule : Rule) × (place : ℕ) × (c ≡ rule_refusal rule place) × (read sd p ≡ refused rule place)
-    unfolding parsed
-    parsed_refused c v h = go (rw (le-ltb 65535 (length p) h) at e) (read sd p) refl
-      where
-        go : r ≡ packet_of (read sd p) → (x : Reading) → read sd p ≡ x
-            → (rule : Rule) × (place : ℕ) × (c ≡ rule_refusal rule place) × (read sd p ≡ refused rule place)
-        go f (refused rule place) q = (rule, place, let x = rw q at f in cc, q)
-        go f (accepted toc ns first taken) q = never (let x = rw q at f in cc)
+  pub parsed_refused : (c : Refusal) → Err c ≡ parsed sd p → length p ≤ 65535
+      → (rule : Rule) × (place : ℕ) × (c ≡ rule_refusal rule place) × (read sd p ≡ refused rule place)
+  unfolding parsed
+  parsed_refused c e h = go (rw (le-ltb 65535 (length p) h) at e) (read sd p) refl
+    where
+      go : Err c ≡ packet_of (read sd p) → (x : Reading) → read sd p ≡ x
+          → (rule : Rule) × (place : ℕ) × (c ≡ rule_refusal rule place) × (read sd p ≡ refused rule place)
+      go f (refused rule place) q = (rule, place, let x = rw q at f in cc, q)
+      go f (accepted toc ns first taken) q = never (let x = rw q at f in cc)

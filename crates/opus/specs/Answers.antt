@@ -2,11 +2,11 @@
 use Rattle.std.specs.Prelude.{ℕ, ◌/◌, ◌%◌, List, [], ◌∷◌, Bool, false, cond, ◌&&◌, ltb, eqb, ℤ, pos, length, get_or}
 use Rattle.opus_defines.specs.Bounds.{most_packet}
 use Rattle.opus_defines.specs.Rules.{rule_refusal}
-use Rattle.opus_defines.specs.Numbers.{verdict_number}
+use Rattle.opus_defines.specs.Numbers.{plain, refusal_report}
+use Rattle.opus_defines.specs.declared.Report.{Report}
 use Rattle.opus_defines.specs.declared.Refusal.{Refusal}
 use Rattle.opus_defines.specs.declared.Refusal.TheVariants.{BadArg}
-use Rattle.opus_defines.specs.declared.Verdict.{Verdict}
-use Rattle.opus_defines.specs.declared.Verdict.TheVariants.{Accepted, Refused}
+use Rattle.std.specs.Prelude.{Result, Ok, Err}
 use Rattle.opus_defines.specs.declared.Rule.TheVariants.{R2, R6}
 use Rattle.opus_size.specs.Size.{most_bytes}
 use Rattle.opus_toc.specs.Toc.{code}
@@ -19,18 +19,14 @@ use Rattle.opus.specs.declared.Short.TheVariants.{One, Two, Broken, Counted}
 use Rattle.opus.specs.declared.code_3.Equal.{Equal}
 use Rattle.opus.specs.declared.code_3.Equal.TheVariants.{Same, Wrong, Other}
 
--- a refusal, and zeros
-abbrev pub no_packet : Refusal → Packet
-no_packet e = record { verdict = Refused e; toc = 0; count = 0; lengths = padded48 []; first = 0; taken = 0 }
-
-abbrev pub packet_of : Reading → Packet
-packet_of (refused rule place) = no_packet (rule_refusal rule place)
+abbrev pub packet_of : Reading → Result Packet Refusal
+packet_of (refused rule place) = Err (rule_refusal rule place)
 packet_of (accepted toc ns first taken) =
-    record { verdict = Accepted; toc = toc; count = length ns; lengths = padded48 ns; first = first; taken = taken }
+    Ok (record { toc = toc; count = length ns; lengths = padded48 ns; first = first; taken = taken })
 
 -- `opus_packet_parse_impl`; `opus_packet_parse` is its ordinary form
-unfoldable pub parsed : Bool → List ℕ → Packet
-parsed sd p = cond (ltb most_packet (length p)) (no_packet BadArg) (packet_of (read sd p))
+unfoldable pub parsed : Bool → List ℕ → Result Packet Refusal
+parsed sd p = cond (ltb most_packet (length p)) (Err BadArg) (packet_of (read sd p))
 
 -- one frame or two
 abbrev pub short_of : Reading → Short
@@ -58,16 +54,18 @@ equal_of (accepted toc ns first taken) = Same (length ns) (get_or ns 0 0) first
 unfoldable pub equal_at : List ℕ → Equal
 equal_at p = cond (eqb (code (get_or p 0 0)) 3 && eqb (get_or p 1 0 / 128 % 2) 0) (equal_of (read false p)) Other
 
--- the number that the crate returns: the count, or the refusal's number
-abbrev pub packet_number : Packet → ℤ
-packet_number r = verdict_number (pos r.count) r.verdict
+-- what a call returns: the count, or the refusal's number, with rule and place (document 02, M-100); the number is the crate's
+abbrev pub packet_report : Result Packet Refusal → Report
+packet_report (Ok r) = plain (pos r.count)
+packet_report (Err e) = refusal_report e
 
--- the lengths of an answer whose array is lent: beside a refusal they are zeros, whatever the array holds
-abbrev pub kept_lengths : Verdict → List ℕ → List ℕ
-kept_lengths Accepted l = l
-kept_lengths (Refused e) l = padded48 []
+abbrev pub packet_number : Result Packet Refusal → ℤ
+packet_number r = (packet_report r).number
 
--- `read_into`: the answer is what it says and the lengths that it has put into the lent array
-abbrev pub answer_of : PacketHead → List ℕ → Packet
-answer_of h l =
-    record { verdict = h.verdict; toc = h.toc; count = h.count; lengths = kept_lengths h.verdict l; first = h.first; taken = h.taken }
+-- `read_into`: what it says of an accepted packet, with the lengths that it has put into the lent array; beside a refusal nothing is said of these
+abbrev pub packet_with : PacketHead → List ℕ → Packet
+packet_with h l = record { toc = h.toc; count = h.count; lengths = l; first = h.first; taken = h.taken }
+
+abbrev pub answer_of : Result PacketHead Refusal → List ℕ → Result Packet Refusal
+answer_of (Ok h) l = Ok (packet_with h l)
+answer_of (Err e) l = Err e

@@ -1,23 +1,24 @@
 -- Document 01, 'Cases at the edges': those on lengths and on reading. Each is what a definition gives, and what the document says.
 -- Later crates add theirs to this list, so that one statement covers all of them.
 use Rattle.std.specs.Prelude.{ℕ, ◌-◌, List, [], ◌∷◌, ◌++◌, true, false, pos, negsuc, length, replicate}
-use Rattle.opus_defines.specs.Numbers.{plain, verdict_report}
+use Rattle.opus_defines.specs.Numbers.{plain}
 use Rattle.opus_defines.specs.Outcome.{Outcome}
+use Rattle.opus_defines.specs.declared.Refusal.{Refusal}
 use Rattle.opus_defines.specs.declared.Refusal.TheVariants.{Unreadable}
 use Rattle.opus_defines.specs.declared.Report.{Report}
 use Rattle.opus_defines.specs.declared.Rule.{Rule}
 use Rattle.opus_defines.specs.declared.Rule.TheVariants.{R1, R2, R3, R4, R5, R6, R7, R8}
-use Rattle.opus_defines.specs.declared.Verdict.TheVariants.{Accepted, Refused}
+use Rattle.std.specs.Prelude.{Result, Ok, Err}
 use Rattle.opus_toc.specs.Toc.{configuration, duration}
 use Rattle.opus_size.specs.Size.{length_field}
 use Rattle.opus_size.specs.Answers.{encode_size}
-use Rattle.opus.specs.Answers.{parsed}
+use Rattle.opus.specs.Answers.{parsed, packet_report}
 use Rattle.opus.specs.declared.Packet.{Packet}
 
 -- what a case shows
 pub data Shown : Type 0 where
   field : List ℕ → Shown
-  packet : Report → Packet → Shown
+  packet : Report → Result Packet Refusal → Shown
   tenths : ℕ → Shown
   outcome : Outcome → Shown
 
@@ -29,20 +30,24 @@ abbrev pub shows : Shown → Shown → Case
 shows given said = record { gives = given; says = said }
 
 -- what reading answers: the number that the call returns, with rule and place, and the record
-abbrev pub reading : Packet → Shown
-reading p = packet (verdict_report p.count p.verdict) p
+abbrev pub reading : Result Packet Refusal → Shown
+reading p = packet (packet_report p) p
+
+-- how long each frame of an accepted packet lasts
+abbrev pub each_lasts : Result Packet Refusal → Shown
+each_lasts (Ok p) = tenths (duration (configuration p.toc))
+each_lasts (Err e) = reading (Err e)
 
 -- a packet that is read: TOC byte, lengths and zeros past the count, first frame's place, bytes taken
 abbrev pub read_as : ℕ → List ℕ → ℕ → ℕ → Shown
 read_as toc ns first taken =
     packet (plain (pos (length ns)))
-    (record { verdict = Accepted; toc = toc; count = length ns; lengths = ns ++ replicate (48 - length ns) 0; first = first; taken = taken })
+    (Ok (record { toc = toc; count = length ns; lengths = ns ++ replicate (48 - length ns) 0; first = first; taken = taken }))
 
--- -4, the rule that is broken with its number, the place, and zeros
+-- -4, the rule that is broken with its number, and the place
 abbrev pub invalid : ℕ → Rule → ℕ → Shown
 invalid n rule place =
-    packet (record { number = negsuc 3; rule = n; place = place })
-    (record { verdict = Refused (Unreadable rule place); toc = 0; count = 0; lengths = replicate 48 0; first = 0; taken = 0 })
+    packet (record { number = negsuc 3; rule = n; place = place }) (Err (Unreadable rule place))
 
 abbrev pub reading_cases : List Case
 reading_cases =
@@ -54,7 +59,7 @@ reading_cases =
     ∷ shows (reading (parsed false (0 ∷ []))) (read_as 0 (0 ∷ []) 1 1)
     ∷ shows (reading (parsed false (0x01 ∷ 0xaa ∷ []))) (invalid 3 R3 0)
     ∷ shows (reading (parsed false (0x1b ∷ 0x02 ∷ []))) (read_as 0x1b (0 ∷ 0 ∷ []) 2 2)
-    ∷ shows (tenths (duration (configuration (parsed false (0x1b ∷ 0x02 ∷ [])).toc))) (tenths 600)
+    ∷ shows (each_lasts (parsed false (0x1b ∷ 0x02 ∷ []))) (tenths 600)
     ∷ shows (reading (parsed false (0x1b ∷ 0x03 ∷ []))) (invalid 5 R5 1)
     ∷ shows (reading (parsed false (0x83 ∷ 0x30 ∷ []))) (read_as 0x83 (replicate 48 0) 2 2)
     ∷ shows (reading (parsed false (0x83 ∷ 0x31 ∷ []))) (invalid 5 R5 1)

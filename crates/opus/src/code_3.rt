@@ -4,7 +4,7 @@ ghost use Rattle.std.specs.Prelude.{◌≡◌, ◌≤◌, length};
 ghost use Rattle.opus.specs.Answers.{shared_at, equal_at};
 
 use opus_defines::{Rule, wide};
-use opus_parts::padding_at::{PaddingAt, read_padding};
+use opus_parts::padding_at::read_padding;
 
 // How many frames, the bytes of each, and the place of the first; or the rule that is broken and where. `Other` is any other packet, which `read_into` reads.
 #[derive(Clone, Copy)]
@@ -57,7 +57,7 @@ pub fn equal_at(data: &[u8]) -> Equal
     }
     let tail = &data[2..];
     let padding = read_padding(tail, count_byte);
-    let PaddingAt::Whole(pad, next) = padding else {
+    let Some((pad, next)) = padding else {
         return Equal::Wrong(Rule::R6, 2);
     };
     let first = 2 + next;

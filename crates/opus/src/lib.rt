@@ -5,29 +5,27 @@
 pub mod code_3;
 pub mod own;
 
-ghost use Rattle.std.specs.Prelude.{◌≡◌, false, [], ◌+◌, ◌-◌, ◌/◌, ◌%◌, ◌<◌, ◌≤◌, length, get_or, drop};
+ghost use Rattle.std.specs.Prelude.{◌≡◌, Err, false, [], ◌+◌, ◌-◌, ◌/◌, ◌%◌, ◌<◌, ◌≤◌, length, get_or, drop};
 ghost use Rattle.opus_format.specs.Frames.{padded48};
 ghost use Rattle.opus_toc.specs.Toc.{code};
 ghost use Rattle.opus_defines.specs.Rules.{rule_refusal};
 ghost use Rattle.opus_defines.specs.declared.Rule.TheVariants.{R4, R7};
 ghost use Rattle.opus_format.specs.Reading.{size_rule, pointed, unequal, accept, read_padding, behind_padding, read3, read};
-ghost use Rattle.opus.specs.Answers.{no_packet, packet_of, parsed, answer_of, short_of, short_at};
+ghost use Rattle.opus.specs.Answers.{packet_of, parsed, answer_of, short_of, short_at};
 ghost use Rattle.opus_parts.specs.Parts.{end_of};
-ghost use Rattle.opus.specs.Heads.{no_head, head_at};
+ghost use Rattle.opus.specs.Heads.{head_at};
 
-use opus_defines::{Refusal, Rule, Verdict, wide};
-use opus_parts::frames_at::{FramesAt, equal_frames, last_frame};
-use opus_parts::padding_at::{PaddingAt, read_padding};
-use opus_parts::sizes_at::{SizesAt, read_sizes};
-use opus_size::SizeAt;
+use opus_defines::{Refusal, Rule, wide};
+use opus_parts::frames_at::{Broken, equal_frames, last_frame};
+use opus_parts::padding_at::read_padding;
+use opus_parts::sizes_at::read_sizes;
 
 // The longest packet, in bytes.
 pub const MOST_PACKET: usize = 65535;
 
-// What the reader answers: all zeros beside a refusal.
+// What the reader answers of a packet that it reads.
 #[derive(Clone, Copy)]
 pub struct Packet {
-    pub verdict: Verdict,
     pub toc: u8,
     pub count: usize,
     pub lengths: [u16; 48],
@@ -36,47 +34,21 @@ pub struct Packet {
     pub taken: usize,
 }
 
-// What the reader says beside the lengths, which are lent; zeros beside a refusal.
+// The same beside the lengths, which are lent.
 #[derive(Clone, Copy)]
 pub struct PacketHead {
-    pub verdict: Verdict,
     pub toc: u8,
     pub count: usize,
     pub first: usize,
     pub taken: usize,
 }
 
-fn no_packet(e: Refusal) -> Packet
-    ensures { result ≡ no_packet e }
-{
-    Packet {
-        verdict: Verdict::Refused(e),
-        toc: 0,
-        count: 0,
-        lengths: [0u16; 48],
-        first: 0,
-        taken: 0,
-    }
-}
-
-fn no_head(e: Refusal) -> PacketHead
-    ensures { result ≡ no_head e }
-{
-    PacketHead {
-        verdict: Verdict::Refused(e),
-        toc: 0,
-        count: 0,
-        first: 0,
-        taken: 0,
-    }
-}
-
 // A packet that breaks a rule at a place.
-fn broken_head(rule: Rule, place: usize) -> PacketHead
+fn broken_head(rule: Rule, place: usize) -> Result<PacketHead, Refusal>
     requires { place < 65536 }
-    ensures { result ≡ no_head (rule_refusal rule place) }
+    ensures { result ≡ Err (rule_refusal rule place) }
 {
-    no_head(opus_defines::rule_refusal(rule, place))
+    Err(opus_defines::rule_refusal(rule, place))
 }
 
 // The place that a broken rule names: rule 3 points at the TOC byte.
@@ -84,14 +56,8 @@ fn pointed_place(rule: Rule, place: usize) -> usize
     ensures { (result ≡ pointed rule place) × (result ≤ place) }
 {
     match rule {
-        Rule::R1 => place,
-        Rule::R2 => place,
         Rule::R3 => 0,
-        Rule::R4 => place,
-        Rule::R5 => place,
-        Rule::R6 => place,
-        Rule::R7 => place,
-        Rule::R8 => place,
+        _ => place,
     }
 }
 
@@ -106,27 +72,36 @@ fn size_rule(count_byte: u8) -> Rule
 }
 
 // The packet of frames that were read at a place.
-fn packet_at(toc: u8, count: usize, at: usize, pad: usize, f: FramesAt) -> PacketHead
+fn packet_at(
+    toc: u8,
+    count: usize,
+    at: usize,
+    pad: usize,
+    f: Result<(usize, usize), Broken>,
+) -> Result<PacketHead, Refusal>
     requires { at + end_of f + pad ≤ 65535 }
     ensures { result ≡ head_at toc count at pad f }
 {
     match f {
-        FramesAt::Broken(rule, place) => broken_head(rule, pointed_place(rule, at + place)),
-        FramesAt::At(offset, total) => {
+        Err((rule, place)) => broken_head(rule, pointed_place(rule, at + place)),
+        Ok((offset, total)) => {
             let first = at + offset;
-            PacketHead {
-                verdict: Verdict::Accepted,
+            Ok(PacketHead {
                 toc,
                 count,
                 first,
                 taken: first + total + pad,
-            }
+            })
         }
     }
 }
 
 // The packet of frames that were read right behind the TOC byte.
-fn behind_toc(toc: u8, count: usize, f: FramesAt) -> PacketHead
+fn behind_toc(
+    toc: u8,
+    count: usize,
+    f: Result<(usize, usize), Broken>,
+) -> Result<PacketHead, Refusal>
     requires { 1 + end_of f ≤ 65535 }
     ensures { result ≡ head_at toc count 1 0 f }
 {
@@ -142,7 +117,7 @@ fn unequal_3(
     pad: usize,
     self_delimited: bool,
     lengths: &mut [u16; 48],
-) -> PacketHead
+) -> Result<PacketHead, Refusal>
     requires le_count { (1 ≤ count) × (count ≤ 48) × (at + length s.now + pad ≤ 65535) }
     requires zeros { lengths.old ≡ padded48 [] }
     ensures { answer_of result lengths.new
@@ -151,8 +126,8 @@ fn unequal_3(
     let k = count - 1;
     let f = read_sizes(s, k, lengths);
     match f {
-        SizesAt::Cut(place) => broken_head(Rule::R7, at + place),
-        SizesAt::All(next, sum) => packet_at(
+        Err(place) => broken_head(Rule::R7, at + place),
+        Ok((next, sum)) => packet_at(
             toc,
             count,
             at,
@@ -163,7 +138,12 @@ fn unequal_3(
 }
 
 // The packet of code 3 behind its count byte: padding lengths, then frames up to the padding.
-fn read_body(data: &[u8], count: usize, self_delimited: bool, lengths: &mut [u16; 48]) -> PacketHead
+fn read_body(
+    data: &[u8],
+    count: usize,
+    self_delimited: bool,
+    lengths: &mut [u16; 48],
+) -> Result<PacketHead, Refusal>
     requires in_bounds { (2 ≤ length «data».now) × (length «data».now ≤ 65535) × (1 ≤ count) × (count ≤ 48) }
     requires zeros { lengths.old ≡ padded48 [] }
     ensures { answer_of result lengths.new
@@ -173,7 +153,7 @@ fn read_body(data: &[u8], count: usize, self_delimited: bool, lengths: &mut [u16
     let count_byte = data[1];
     let tail = &data[2..];
     let padding = read_padding(tail, count_byte);
-    let PaddingAt::Whole(pad, next) = padding else {
+    let Some((pad, next)) = padding else {
         return broken_head(size_rule(count_byte), 2);
     };
     let at = 2 + next;
@@ -187,7 +167,7 @@ fn read_body(data: &[u8], count: usize, self_delimited: bool, lengths: &mut [u16
 }
 
 // A packet of code 3: its count byte is there, and its frames last at most 120 ms.
-fn read_3(data: &[u8], self_delimited: bool, lengths: &mut [u16; 48]) -> PacketHead
+fn read_3(data: &[u8], self_delimited: bool, lengths: &mut [u16; 48]) -> Result<PacketHead, Refusal>
     requires in_bounds { (1 ≤ length «data».now) × (length «data».now ≤ 65535) }
     requires zeros { lengths.old ≡ padded48 [] }
     ensures { answer_of result lengths.new
@@ -209,7 +189,7 @@ fn read_3(data: &[u8], self_delimited: bool, lengths: &mut [u16; 48]) -> PacketH
 
 // A packet of code 2: the first frame says its length, and the second takes the rest or says its own. `read_sizes` would serve, but with a second caller it is
 // no longer compiled into the reader of code 3.
-fn read_2(data: &[u8], self_delimited: bool, lengths: &mut [u16; 48]) -> PacketHead
+fn read_2(data: &[u8], self_delimited: bool, lengths: &mut [u16; 48]) -> Result<PacketHead, Refusal>
     requires in_bounds { (1 ≤ length «data».now) × (length «data».now ≤ 65535) }
     requires zeros { lengths.old ≡ padded48 [] }
     ensures { answer_of result lengths.new
@@ -218,7 +198,7 @@ fn read_2(data: &[u8], self_delimited: bool, lengths: &mut [u16; 48]) -> PacketH
 {
     let body = &data[1..];
     let size = opus_size::size_at(body, 0);
-    let SizeAt::Whole(n, next) = size else {
+    let Some((n, next)) = size else {
         return broken_head(Rule::R4, 1);
     };
     let sum = wide(n);
@@ -234,7 +214,11 @@ fn read_2(data: &[u8], self_delimited: bool, lengths: &mut [u16; 48]) -> PacketH
 }
 
 // A packet of at least one byte and not too long. Code 3 is asked for first: most packets that come here have it.
-pub fn read_packet(data: &[u8], self_delimited: bool, lengths: &mut [u16; 48]) -> PacketHead
+pub fn read_packet(
+    data: &[u8],
+    self_delimited: bool,
+    lengths: &mut [u16; 48],
+) -> Result<PacketHead, Refusal>
     requires in_bounds { (1 ≤ length «data».now) × (length «data».now ≤ 65535) }
     requires zeros { lengths.old ≡ padded48 [] }
     ensures { answer_of result lengths.new ≡ packet_of (read self_delimited «data».now) }
@@ -300,7 +284,7 @@ fn two_unequal(data: &[u8]) -> Short
     ensures { result ≡ short_of (read false «data».now) }
 {
     let size = opus_size::size_at(data, 1);
-    let SizeAt::Whole(n, first) = size else {
+    let Some((n, first)) = size else {
         return Short::Broken(Rule::R4, 1);
     };
     let left = data.len() - first;
@@ -338,12 +322,16 @@ pub fn short_at(data: &[u8]) -> Short
 
 // Reads the packet at the front of `data`, and puts the lengths of its frames into `lengths`, which come as zeros. Beside a refusal
 // nothing is said of them.
-pub fn read_into(data: &[u8], self_delimited: bool, lengths: &mut [u16; 48]) -> PacketHead
+pub fn read_into(
+    data: &[u8],
+    self_delimited: bool,
+    lengths: &mut [u16; 48],
+) -> Result<PacketHead, Refusal>
     requires { lengths.old ≡ padded48 [] }
     ensures { answer_of result lengths.new ≡ parsed self_delimited «data».now }
 {
     if MOST_PACKET < data.len() {
-        return no_head(Refusal::BadArg);
+        return Err(Refusal::BadArg);
     }
     if data.len() == 0 {
         return broken_head(Rule::R1, 0);
@@ -352,27 +340,22 @@ pub fn read_into(data: &[u8], self_delimited: bool, lengths: &mut [u16; 48]) -> 
 }
 
 // Reads the packet at the front of `data`, which in the ordinary form is all of it.
-pub fn opus_packet_parse_impl(data: &[u8], self_delimited: bool) -> Packet
+pub fn opus_packet_parse_impl(data: &[u8], self_delimited: bool) -> Result<Packet, Refusal>
     ensures { result ≡ parsed self_delimited «data».now }
 {
     let mut lengths = [0u16; 48];
-    let h = read_into(data, self_delimited, &mut lengths);
-    let v = h.verdict;
-    match v {
-        Verdict::Accepted => Packet {
-            verdict: v,
-            toc: h.toc,
-            count: h.count,
-            lengths,
-            first: h.first,
-            taken: h.taken,
-        },
-        Verdict::Refused(e) => no_packet(e),
-    }
+    let h = read_into(data, self_delimited, &mut lengths)?;
+    Ok(Packet {
+        toc: h.toc,
+        count: h.count,
+        lengths,
+        first: h.first,
+        taken: h.taken,
+    })
 }
 
 // Reads an ordinary packet.
-pub fn opus_packet_parse(data: &[u8]) -> Packet
+pub fn opus_packet_parse(data: &[u8]) -> Result<Packet, Refusal>
     ensures { result ≡ parsed false «data».now }
 {
     opus_packet_parse_impl(data, false)

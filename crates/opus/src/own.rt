@@ -7,7 +7,6 @@ ghost use Rattle.opus.specs.Answers.{short_of, short_at};
 
 use crate::Short;
 use opus_defines::{Rule, wide};
-use opus_size::SizeAt;
 
 // Code 0: the frame says its length.
 fn own_one(data: &[u8]) -> Short
@@ -15,7 +14,7 @@ fn own_one(data: &[u8]) -> Short
     ensures { result ≡ short_of (read true «data».now) }
 {
     let size = opus_size::size_at(data, 1);
-    let SizeAt::Whole(n, first) = size else {
+    let Some((n, first)) = size else {
         return Short::Broken(Rule::R8, 1);
     };
     if data.len() - first < wide(n) {
@@ -30,7 +29,7 @@ fn own_equal(data: &[u8]) -> Short
     ensures { result ≡ short_of (read true «data».now) }
 {
     let size = opus_size::size_at(data, 1);
-    let SizeAt::Whole(n, first) = size else {
+    let Some((n, first)) = size else {
         return Short::Broken(Rule::R8, 1);
     };
     if data.len() - first < 2 * wide(n) {
@@ -45,14 +44,14 @@ fn own_unequal(data: &[u8]) -> Short
     ensures { result ≡ short_of (read true «data».now) }
 {
     let size = opus_size::size_at(data, 1);
-    let SizeAt::Whole(m, next) = size else {
+    let Some((m, next)) = size else {
         return Short::Broken(Rule::R4, 1);
     };
     if data.len() - next < wide(m) {
         return Short::Broken(Rule::R4, 1);
     }
     let last = opus_size::size_at(data, next);
-    let SizeAt::Whole(n, first) = last else {
+    let Some((n, first)) = last else {
         return Short::Broken(Rule::R8, next);
     };
     if data.len() - first < wide(m) + wide(n) {

@@ -7,12 +7,7 @@ use Rattle.opus_defines.specs.declared.Refusal.TheVariants.{BadArg, BufferTooSma
 use Rattle.opus_defines.specs.declared.Refusal.TheVariants.{Unreadable, CutShort, DirtyPadding, OverBudget}
 use Rattle.opus_defines.specs.declared.Refusal.TheVariants.{BadHeader, UnknownVersion, BadField}
 use Rattle.opus_defines.specs.declared.Report.{Report}
-use Rattle.opus_defines.specs.declared.Answer.{Answer}
-use Rattle.opus_defines.specs.declared.Answer.TheVariants.{Number, Refused}
-use Rattle.opus_defines.specs.declared.Verdict.{Verdict}
-use Rattle.opus_defines.specs.declared.Verdict.TheVariants.{Accepted, Refused as Refuses}
-use Rattle.opus_defines.specs.declared.Count.{Count}
-use Rattle.opus_defines.specs.declared.Count.TheVariants.{Is, Negative}
+use Rattle.std.specs.Prelude.{Err, None, Ok, Option, Result, Some}
 
 -- 1 to 7 for R1 to R7, 8 for a bad last length in the self-delimited form
 abbrev pub rule_number : Rule → ℕ
@@ -47,23 +42,23 @@ refusal_report BadField = plain (negsuc 23)
 abbrev pub refusal_number : Refusal → ℤ
 refusal_number e = (refusal_report e).number
 
-abbrev pub report_of : Answer → Report
-report_of (Number n) = plain (pos n)
-report_of (Refused e) = refusal_report e
+abbrev pub report_of : Result ℕ Refusal → Report
+report_of (Ok n) = plain (pos n)
+report_of (Err e) = refusal_report e
 
-abbrev pub number_of : Answer → ℤ
+abbrev pub number_of : Result ℕ Refusal → ℤ
 number_of a = (report_of a).number
 
 -- the same of an answer that is a record: n where it is accepted
-abbrev pub verdict_report : ℕ → Verdict → Report
-verdict_report n Accepted = plain (pos n)
-verdict_report n (Refuses e) = refusal_report e
+abbrev pub verdict_report : ℕ → Result (Unit {0}) Refusal → Report
+verdict_report n (Ok tt) = plain (pos n)
+verdict_report n (Err e) = refusal_report e
 
-abbrev pub verdict_number : ℤ → Verdict → ℤ
-verdict_number n Accepted = n
-verdict_number n (Refuses e) = refusal_number e
+abbrev pub verdict_number : ℤ → Result (Unit {0}) Refusal → ℤ
+verdict_number n (Ok tt) = n
+verdict_number n (Err e) = refusal_number e
 
 -- a signed number by its sign
-abbrev pub count_of : ℤ → Count
-count_of (pos n) = Is n
-count_of (negsuc n) = Negative
+abbrev pub count_of : ℤ → Option ℕ
+count_of (pos n) = Some n
+count_of (negsuc n) = None

@@ -11,7 +11,7 @@ ghost use Rattle.opus_defines.specs.declared.Refusal.TheVariants.{Unreadable};
 pub const OPUS_OK: u16 = 0;
 
 // Why a call refuses: one type for the whole project.
-#[derive(Clone, Copy)]
+#[derive(Clone, Copy, Debug, PartialEq, Eq)]
 pub enum Refusal {
     BadArg,
     BufferTooSmall,
@@ -35,7 +35,7 @@ pub enum Refusal {
 
 // What a call answers to C that reads a packet: a count or the refusal's number, and with an unreadable packet the rule, 1 to 8, and the place.
 #[repr(C)]
-#[derive(Clone, Copy)]
+#[derive(Clone, Copy, Debug, PartialEq, Eq)]
 pub struct Report {
     pub number: i32,
     pub rule: u16,
@@ -43,9 +43,9 @@ pub struct Report {
 }
 
 // The rules of RFC 6716, section 3.4, that a packet can break: R1 to R7, and R8 for a bad last length in the self-delimited form.
-#[derive(Clone, Copy)]
+#[derive(Clone, Copy, Debug, PartialEq, Eq)]
 pub enum Rule {
-    R1,
+    R1 = 1,
     R2,
     R3,
     R4,
@@ -70,17 +70,8 @@ pub fn shift(e: Refusal, by: usize) -> Refusal
     ensures { result ≡ shifted by e }
 {
     match e {
-        Refusal::BadArg => Refusal::BadArg,
-        Refusal::BufferTooSmall => Refusal::BufferTooSmall,
-        Refusal::InvalidPacket => Refusal::InvalidPacket,
-        Refusal::InvalidState => Refusal::InvalidState,
         Refusal::Unreadable(rule, place) => rule_refusal(rule, wide(place) + by),
-        Refusal::CutShort(rule) => Refusal::CutShort(rule),
-        Refusal::DirtyPadding => Refusal::DirtyPadding,
-        Refusal::OverBudget => Refusal::OverBudget,
-        Refusal::BadHeader => Refusal::BadHeader,
-        Refusal::UnknownVersion => Refusal::UnknownVersion,
-        Refusal::BadField => Refusal::BadField,
+        other => other,
     }
 }
 
@@ -88,30 +79,7 @@ pub fn shift(e: Refusal, by: usize) -> Refusal
 pub fn rule_number(rule: Rule) -> u16
     ensures { result ≡ rule_number rule }
 {
-    match rule {
-        Rule::R1 => 1,
-        Rule::R2 => 2,
-        Rule::R3 => 3,
-        Rule::R4 => 4,
-        Rule::R5 => 5,
-        Rule::R6 => 6,
-        Rule::R7 => 7,
-        Rule::R8 => 8,
-    }
-}
-
-// What an answer that is a record says beside its values.
-#[derive(Clone, Copy)]
-pub enum Verdict {
-    Accepted,
-    Refused(Refusal),
-}
-
-// What a call answers that gives one number. Every count, length and number of samples is below 65,536.
-#[derive(Clone, Copy)]
-pub enum Answer {
-    Number(u16),
-    Refused(Refusal),
+    rule as u16
 }
 
 // The number of a refusal.
@@ -175,22 +143,22 @@ pub fn refusal_number(e: Refusal) -> i32
     r.number
 }
 
-// What a call returns that reads a packet.
-pub fn report_of(a: Answer) -> Report
+// What a call returns whose answer is one number: every count, length and number of samples is below 65,536.
+pub fn report_of(a: Result<u16, Refusal>) -> Report
     ensures { result ≡ report_of a }
 {
     match a {
-        Answer::Number(n) => Report {
+        Ok(n) => Report {
             number: n as i32,
             rule: 0,
             place: 0,
         },
-        Answer::Refused(e) => refusal_report(e),
+        Err(e) => refusal_report(e),
     }
 }
 
 // The number that a call returns.
-pub fn number_of(a: Answer) -> i32
+pub fn number_of(a: Result<u16, Refusal>) -> i32
     ensures { result ≡ number_of a }
 {
     let r = report_of(a);
@@ -198,27 +166,17 @@ pub fn number_of(a: Answer) -> i32
 }
 
 // The number that a call returns whose answer is a record: n where it is accepted.
-pub fn verdict_number(n: u16, v: Verdict) -> i32
+pub fn verdict_number(n: u16, v: Result<(), Refusal>) -> i32
     ensures { result ≡ verdict_number (pos n) v }
 {
-    match v {
-        Verdict::Accepted => n as i32,
-        Verdict::Refused(e) => refusal_number(e),
-    }
+    number_of(v.map(|()| n))
 }
 
 // The same with rule and place.
-pub fn verdict_report(n: u16, v: Verdict) -> Report
+pub fn verdict_report(n: u16, v: Result<(), Refusal>) -> Report
     ensures { result ≡ verdict_report n v }
 {
-    match v {
-        Verdict::Accepted => Report {
-            number: n as i32,
-            rule: 0,
-            place: 0,
-        },
-        Verdict::Refused(e) => refusal_report(e),
-    }
+    report_of(v.map(|()| n))
 }
 
 // A number of 16 bits, and a byte, as sizes: a caller knows the bound, which a cast would not say.
@@ -234,19 +192,10 @@ pub fn wide_byte(x: u8) -> usize
     x as usize
 }
 
-// A signed number taken apart.
-#[derive(Clone, Copy)]
-pub enum Count {
-    Is(usize),
-    Negative,
-}
-
-pub fn count_of(x: i32) -> Count
+// A signed number, unless it is negative.
+pub fn count_of(x: i32) -> Option<usize>
     ensures is { result ≡ count_of x }
-    ensures small { (n : ℕ) → result ≡ Count.Is n → n < 2 ^ 31 }
+    ensures small { (n : ℕ) → result ≡ Some n → n < 2 ^ 31 }
 {
-    if x < 0 {
-        return Count::Negative;
-    }
-    Count::Is(x as usize)
+    usize::try_from(x).ok()
 }

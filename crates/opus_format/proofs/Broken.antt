@@ -19,7 +19,7 @@ use Rattle.opus_defines.specs.declared.Rule.{Rule}
 use Rattle.opus_defines.specs.declared.Rule.TheVariants.{R1, R2, R3, R4, R5, R6, R7, R8}
 use Rattle.opus_size.specs.Size.{most_bytes, length_field, length_fields, Field as Read, no_field, field, read_field}
 use Rattle.opus_size.proofs.Fields.{field_read, field_was}
-use Rattle.opus_defines.specs.declared.Answer.TheVariants.{Number}
+use Rattle.std.specs.Prelude.{Ok}
 use Rattle.opus_toc.specs.Toc.{upper_six}
 use Rattle.opus_toc.specs.Answers.{frames_by_code, nb_frames}
 use Rattle.opus_format.specs.Frames.{total}
@@ -261,11 +261,11 @@ module _ (sd : Bool) (p a s q : List ℕ) (whole : p ≡ a ++ (s ++ q)) (starts 
   here = placed [] s refl tt
 
   -- unequal lengths, where r is the rule of a length
-  module _ (r : Rule) (k : ℕ) (frames : nb_frames p ≡ Number (suc k)) (some-breaks : (u : List ℕ) → Broke k s u → Breaks sd p r (pointed r (at u)))
+  module _ (r : Rule) (k : ℕ) (frames : nb_frames p ≡ Ok (suc k)) (some-breaks : (u : List ℕ) → Broke k s u → Breaks sd p r (pointed r (at u)))
       (sum-breaks : (ns u : List ℕ) → (k ≡ 1 → ⊥) → (k ≡ 0 → ⊥) → All k s ns u → length u < total ns
       → Breaks sd p r (pointed r (at u))) where
-    said_all : (ns u : List ℕ) → All k s ns u → nb_frames p ≡ Number (suc (length ns))
-    said_all ns u l = frames ∙ ap (λ n. Number (suc n)) (sym l.count)
+    said_all : (ns u : List ℕ) → All k s ns u → nb_frames p ≡ Ok (suc (length ns))
+    said_all ns u l = frames ∙ ap (λ n. Ok (suc n)) (sym l.count)
 
     bad_breaks : {x : Rule} {u : List ℕ} → Bad sd r k s x u → Breaks sd p x (pointed x (at u))
     bad_breaks (some u b) = some-breaks u b
@@ -274,7 +274,7 @@ module _ (sd : Bool) (p a s q : List ℕ) (whole : p ≡ a ++ (s ++ q)) (starts 
     bad_breaks (own ns u d l why) = last ns u (at u) d (all_placed ns u l) (said_all ns u l) why
 
   -- equal ones
-  module _ (r : Rule) (count : ℕ) (frames : nb_frames p ≡ Number count)
+  module _ (r : Rule) (count : ℕ) (frames : nb_frames p ≡ Ok count)
       (uneven-breaks : sd ≡ false → (length s % count ≡ 0 → ⊥) → Breaks sd p r (pointed r (at s))) where
     uneven_all : {x : Rule} → Uneven sd r count s x → Breaks sd p x (pointed x (at s))
     uneven_all (uneven d n) = uneven-breaks d n
@@ -347,7 +347,7 @@ module _ (sd : Bool) (toc c : ℕ) (s : List ℕ) (three : toc % 4 ≡ 3) (bytes
     starts_counted : Start (toc ∷ c ∷ s) (toc ∷ c ∷ a) (length q)
     starts_counted = counted toc c a (b ++ q) (length q) all three padding (omega (arith, length-append b q))
 
-    said_3 : (n : ℕ) → c % 64 ≡ n → nb_frames (toc ∷ c ∷ s) ≡ Number n
+    said_3 : (n : ℕ) → c % 64 ≡ n → nb_frames (toc ∷ c ∷ s) ≡ Ok n
     unfolding nb_frames
     said_3 n e = rw (three, e)
 

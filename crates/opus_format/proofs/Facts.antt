@@ -13,7 +13,7 @@ use lib.Seq.{length-take-le}
 use borrow.Author.Tests.{leb-true, le-leb}
 use Rattle.laws.specs.Bytes.{Bytes}
 use Rattle.opus_size.specs.Size.{most_bytes}
-use Rattle.opus_defines.specs.declared.Answer.TheVariants.{Number}
+use Rattle.std.specs.Prelude.{Ok}
 use Rattle.opus_toc.specs.Toc.{upper_six, toc_byte, configuration, duration, time}
 use Rattle.opus_toc.specs.Answers.{nb_frames}
 use Rattle.opus_toc.proofs.Samples.{lasts_at_lem}
@@ -43,7 +43,7 @@ layout_headed (code3unequal ns n l d) = omega arith
 
 -- its first bytes say how many frames there are
 layout_said : {sd : Bool} {six : ℕ} {head ns : List ℕ} {pad : ℕ} → Layout sd six head ns pad → (u : List ℕ) → nb_frames (head ++ u)
-    ≡ Number (length ns)
+    ≡ Ok (length ns)
 unfolding nb_frames
 layout_said {six = six} (code0 n) u = let c : toc_byte six 0 % 4 ≡ 0 = omega arith in rw c
 layout_said {six = six} (code1 n) u = let c : toc_byte six 1 % 4 ≡ 1 = omega arith in rw c
@@ -57,14 +57,14 @@ layout_said {six = six} (code3unequal ns n {p} l d) u =
     rw (c, byte_count 1 p (suc (length ns)) (omega arith) (padding_flag_lem d) (omega (arith, lasts_few l)), e)
 
 pub said : (sd : Bool) (p : List ℕ) (toc : ℕ) (ns : List ℕ) (first taken : ℕ) → Bytes p → read sd p ≡ accepted toc ns first taken
-    → nb_frames p ≡ Number (length ns)
+    → nb_frames p ≡ Ok (length ns)
 said sd p toc ns first taken bytes r =
     let w = read_spelled sd p toc ns first taken bytes r in
     let q = w.packet in
     let rest = joined (cut ns (drop first p)) ++ q.padding in
     let whole : p ≡ q.head ++ (rest ++ drop taken p) =
     sym (take-append-drop taken p) ∙ (ap (λ s. s ++ drop taken p) q.bytes ∙ append_assoc q.head rest (drop taken p)) in
-    ap nb_frames whole ∙ (layout_said q.layout (rest ++ drop taken p) ∙ ap (λ l. Number (length l)) w.lengths_are)
+    ap nb_frames whole ∙ (layout_said q.layout (rest ++ drop taken p) ∙ ap (λ l. Ok (length l)) w.lengths_are)
 
 -- m is the length of what was read
 pub record Facts (m toc : ℕ) (ns : List ℕ) (first taken : ℕ) : Type 0 where

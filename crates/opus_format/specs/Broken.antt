@@ -1,6 +1,6 @@
 -- What it means that a packet breaks a rule of RFC 6716, section 3.4, at a place (document 02, M-100): said of its bytes, not of how they are read.
 use Rattle.std.specs.Prelude.{ℕ, suc, ◌+◌, ◌*◌, ◌-◌, ◌/◌, ◌%◌, ◌≤◌, ◌<◌, ◌≡◌, List, [], ◌∷◌, ◌++◌, Bool, true, false, length, get_or, take, drop}
-use Rattle.opus_defines.specs.declared.Answer.TheVariants.{Number}
+use Rattle.std.specs.Prelude.{Ok}
 use Rattle.opus_defines.specs.declared.Rule.{Rule}
 use Rattle.opus_defines.specs.declared.Rule.TheVariants.{R1, R2, R3, R4, R5, R6, R7, R8}
 use Rattle.opus_size.specs.Size.{most_bytes, length_field, length_fields}
@@ -42,10 +42,10 @@ pub data Breaks (sd : Bool) (p : List ℕ) : Rule → ℕ → Type 0 where
   -- no TOC byte
   empty : p ≡ [] → Breaks sd p R1 0
   -- a frame longer than 1275 bytes: the last one, which takes the rest, or each of those that share it
-  implied : (ns u : List ℕ) (place : ℕ) → sd ≡ false → Place p ns place u → nb_frames p ≡ Number (suc (length ns))
+  implied : (ns u : List ℕ) (place : ℕ) → sd ≡ false → Place p ns place u → nb_frames p ≡ Ok (suc (length ns))
       → most_bytes < length u - total ns
       → Breaks sd p R2 place
-  shared : (count : ℕ) (u : List ℕ) (place : ℕ) → sd ≡ false → Place p [] place u → nb_frames p ≡ Number count → most_bytes < length u / count
+  shared : (count : ℕ) (u : List ℕ) (place : ℕ) → sd ≡ false → Place p [] place u → nb_frames p ≡ Ok count → most_bytes < length u / count
       → Breaks sd p R2 place
   -- two equal frames in an odd rest
   odd : sd ≡ false → code (get_or p 0 0) ≡ 1 → ((length p - 1) % 2 ≡ 0 → ⊥) → Breaks sd p R3 0
@@ -65,7 +65,7 @@ pub data Breaks (sd : Bool) (p : List ℕ) : Rule → ℕ → Type 0 where
   together : (ns u : List ℕ) (place : ℕ) → code (get_or p 0 0) ≡ 3 → (get_or p 1 0 / 128 % 2 ≡ 0 → ⊥) → Place p ns place u
       → suc (length ns) ≡ get_or p 1 0 % 64 → length u < total ns → Breaks sd p R7 place
   -- appendix B: the last length, with those of the frames before it, or the one of all frames
-  last : (ns u : List ℕ) (place : ℕ) → sd ≡ true → Place p ns place u → nb_frames p ≡ Number (suc (length ns)) → Cramped (λ n. total ns + n) u
+  last : (ns u : List ℕ) (place : ℕ) → sd ≡ true → Place p ns place u → nb_frames p ≡ Ok (suc (length ns)) → Cramped (λ n. total ns + n) u
       → Breaks sd p R8 place
-  each : (count : ℕ) (u : List ℕ) (place : ℕ) → sd ≡ true → Place p [] place u → nb_frames p ≡ Number count → Cramped (λ n. count * n) u
+  each : (count : ℕ) (u : List ℕ) (place : ℕ) → sd ≡ true → Place p [] place u → nb_frames p ≡ Ok count → Cramped (λ n. count * n) u
       → Breaks sd p R8 place

@@ -8,7 +8,7 @@ use lib.ListN.{drop, replicate}
 use Rattle.opus_defines.specs.Numbers.{plain}
 use Rattle.opus_defines.specs.Outcome.{refuses}
 use Rattle.opus_defines.specs.declared.Refusal.TheVariants.{BufferTooSmall, BadHeader, UnknownVersion, BadField}
-use Rattle.opus_defines.specs.declared.Verdict.TheVariants.{Refused}
+use Rattle.std.specs.Prelude.{Err}
 use Rattle.opus_head.specs.declared.OpusHead.{OpusHead}
 use Rattle.opus_head.specs.Header.{head_bytes}
 use Rattle.opus_head.specs.Reading.{fields_fit, no_head, a_head, head_read, head_written, head_write}
@@ -59,7 +59,7 @@ letters_asked = refl
 -- all is 0 beside a refusal
 pub nothing_read : head_read []
     ≡ record {
-      verdict = Refused BadHeader;
+      verdict = Err BadHeader;
       head =
           record {
             version = 0;

@@ -1,29 +1,20 @@
--- The letters at the front of a list, looked at one by one.
+-- The letters at the front of a list, as std looks at them.
 -- Assumes nothing.
-use Prim.Native.Nat.{ℕ, ◌+◌, ◌<◌, ◌≤◌}
-use native.Mathlib.Numerals.{add-one}
-use mathlib.Core.Path.{◌≡◌, ap, ◌∙◌}
-use mathlib.Core.List.{List}
-use mathlib.Core.Bool.{Bool, true, false, ◌&&◌}
+use Prim.Native.Nat.{ℕ}
+use mathlib.Core.Path.{◌≡◌, refl, sym, ap, ◌∙◌}
+use mathlib.Core.List.{List, [], ◌∷◌}
+use mathlib.Core.Bool.{Bool, ◌&&◌}
 use lib.Dec.{eqb}
-use lib.ListN.{length, drop, get_or, drop_of_length-le}
-use lib.Seq.{drop-cons}
-use borrow.Author.Tests.{eq-eqb, ne_eqb}
+use borrow.Author.Tests.{eq-eqb, ne_eqb, eqb-true, eqb-false}
+use Rattle.std.specs.List.{starts_with}
+use Rattle.laws.proofs.Never.{by_test}
 use Rattle.opus_head.specs.Reading.{begins}
 
--- what is left to look at from letter i on
-abbrev pub begins_from : List ℕ → List ℕ → ℕ → Bool
-begins_from cs s i = begins (drop i cs) (drop i s)
+eqb_comm : (m n : ℕ) → eqb m n ≡ eqb n m
+eqb_comm m n =
+    by_test (eqb m n) (λ t. t ∙ sym (eq-eqb n m (sym (eqb-true m n t)))) (λ t. t ∙ sym (ne_eqb n m (λ e. eqb-false m n t (sym e))))
 
-module _ (cs s : List ℕ) (i : ℕ) (h : i < length cs) (k : i < length s) where
-  next : begins_from cs s i ≡ eqb (get_or s i 0) (get_or cs i 0) && begins_from cs s (i + 1)
-  next = rw (drop-cons cs i 0 h, drop-cons s i 0 k, add-one)
-
-  pub letter_same : get_or s i 0 ≡ get_or cs i 0 → begins_from cs s i ≡ begins_from cs s (i + 1)
-  letter_same e = next ∙ ap (λ (b : Bool). b && begins_from cs s (i + 1)) (eq-eqb (get_or s i 0) (get_or cs i 0) e)
-
-  pub letter_other : (get_or s i 0 ≡ get_or cs i 0 → ⊥) → begins_from cs s i ≡ false
-  letter_other o = next ∙ ap (λ (b : Bool). b && begins_from cs s (i + 1)) (ne_eqb (get_or s i 0) (get_or cs i 0) o)
-
-pub letters_end : (cs s : List ℕ) (i : ℕ) → length cs ≤ i → begins_from cs s i ≡ true
-letters_end cs s i h = rw (drop_of_length-le cs h)
+pub starts_begins : (cs s : List ℕ) → starts_with eqb s cs ≡ begins cs s
+starts_begins [] s = refl
+starts_begins (c ∷ cs) [] = refl
+starts_begins (c ∷ cs) (b ∷ s) = ap (λ (t : Bool). t && starts_with eqb s cs) (eqb_comm c b) ∙ ap (λ (t : Bool). eqb b c && t) (starts_begins cs s)

@@ -4,7 +4,7 @@ use Rattle.std.specs.Prelude.{take, drop, get_or, replicate}
 use Rattle.opus_defines.specs.Outcome.{Effect, refusal, into_room, Outcome, leaves}
 use Rattle.opus_defines.specs.declared.Refusal.{Refusal}
 use Rattle.opus_defines.specs.declared.Refusal.TheVariants.{BadHeader, UnknownVersion, BadField}
-use Rattle.opus_defines.specs.declared.Verdict.TheVariants.{Accepted, Refused}
+use Rattle.std.specs.Prelude.{Err, Ok}
 use Rattle.low_first.specs.Numbers.{number_at}
 use Rattle.opus_head.specs.Header.{letters, head_bytes}
 use Rattle.opus_head.specs.declared.OpusHead.{OpusHead}
@@ -90,7 +90,7 @@ begins (c ∷ cs) (b ∷ s) = eqb b c && begins cs s
 abbrev pub no_head : Refusal → HeadRead
 no_head e =
     record {
-      verdict = Refused e;
+      verdict = Err e;
       head = record {
         version = 0;
         channels = 0;
@@ -105,7 +105,7 @@ no_head e =
     }
 
 abbrev pub a_head : OpusHead → HeadRead
-a_head h = record { verdict = Accepted; head = h }
+a_head h = record { verdict = Ok tt; head = h }
 
 -- `head_read`
 unfoldable pub head_read : List ℕ → HeadRead

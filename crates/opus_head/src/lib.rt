@@ -9,7 +9,7 @@ ghost use Rattle.opus_head.specs.Reading.{channels_fit, entries_fit, streams_fit
 ghost use Rattle.opus_head.specs.Reading.{signed16, entries, head_with, plain_head, head_of, no_head, head_read, head_write};
 ghost use Rattle.opus_head.specs.Parts.{entry_fits, checked, fields_of};
 
-use opus_defines::{Answer, Refusal, Verdict, wide_byte};
+use opus_defines::{Refusal, wide_byte};
 
 // The least bytes of a header: those of family 0.
 pub const LEAST_HEAD: usize = 19;
@@ -36,7 +36,7 @@ pub struct OpusHead {
 // What `head_read` answers; all zeros beside a refusal.
 #[derive(Clone, Copy)]
 pub struct HeadRead {
-    pub verdict: Verdict,
+    pub verdict: Result<(), Refusal>,
     pub head: OpusHead,
 }
 
@@ -84,19 +84,16 @@ fn entries_fit(mapping: &[u8], n: usize, sum: usize) -> bool
     requires { n ≤ length mapping.now }
     ensures { result ≡ entries_fit n sum mapping.now }
 {
-    let mut i: usize = 0;
-    while i < n {
+    for i in 0..n {
         if !entry_fits(sum, wide_byte(mapping[i])) {
             return false;
         }
-        i += 1;
     }
     let mut fits = true;
-    while i < mapping.len() {
+    for i in n..mapping.len() {
         if mapping[i] != 0 {
             fits = false;
         }
-        i += 1;
     }
     fits
 }
@@ -157,15 +154,7 @@ fn has_letters(data: &[u8]) -> bool
     requires { 19 ≤ length «data».now }
     ensures { result ≡ begins letters «data».now }
 {
-    let opus_head = [0x4Fu8, 0x70, 0x75, 0x73, 0x48, 0x65, 0x61, 0x64];
-    let mut i: usize = 0;
-    while i < 8 {
-        if data[i] != opus_head[i] {
-            return false;
-        }
-        i += 1;
-    }
-    true
+    data.starts_with(b"OpusHead")
 }
 
 // 16 bits as a signed number, and back.
@@ -260,7 +249,7 @@ fn no_head(e: Refusal) -> HeadRead
     ensures { result ≡ no_head e }
 {
     HeadRead {
-        verdict: Verdict::Refused(e),
+        verdict: Err(e),
         head: OpusHead {
             version: 0,
             channels: 0,
@@ -288,7 +277,7 @@ fn checked_head(head: OpusHead) -> HeadRead
         &mapping,
     ) {
         return HeadRead {
-            verdict: Verdict::Accepted,
+            verdict: Ok(()),
             head,
         };
     }
@@ -408,7 +397,7 @@ fn write_answer(
     coupled: u8,
     mapping: &[u8],
     dst: &mut [u8],
-) -> Answer
+) -> Result<u16, Refusal>
     requires { length mapping.now ≡ 255 }
     ensures says { report_of result
         ≡ (head_write (fields_of version channels pre_skip rate gain family streams coupled mapping.now) dst.old).report }
@@ -416,19 +405,19 @@ fn write_answer(
         ≡ (head_write (fields_of version channels pre_skip rate gain family streams coupled mapping.now) dst.old).bytes }
 {
     if version != 1 {
-        return Answer::Refused(Refusal::BadField);
+        return Err(Refusal::BadField);
     }
     if !fields_fit(channels, family, streams, coupled, mapping) {
-        return Answer::Refused(Refusal::BadField);
+        return Err(Refusal::BadField);
     }
     let need = bytes_needed(family, channels);
     if dst.len() < need {
-        return Answer::Refused(Refusal::BufferTooSmall);
+        return Err(Refusal::BufferTooSmall);
     }
     put_head(
         version, channels, pre_skip, rate, gain, family, streams, coupled, mapping, dst,
     );
-    Answer::Number(need as u16)
+    Ok(need as u16)
 }
 
 // Writes a header of these fields at the front of `dst`, and answers its bytes. Refusals, in order: -24 for a version other than 1, a field against the

@@ -48,15 +48,12 @@ pub fn sums_of(ns: &[u16]) -> Sums
     let mut total: u16 = 0;
     let mut fields: u16 = 0;
     let mut same = true;
-    let mut i: usize = 0;
-    while i < ns.len() {
-        let n = ns[i];
+    for &n in ns {
         total += n;
         fields += field_bytes(n);
         if n != first {
             same = false;
         }
-        i += 1;
     }
     if same {
         return Sums {
@@ -82,10 +79,8 @@ fn put_sizes(data: &mut [u8], at: usize, ns: &[u16]) -> usize
     ensures next { result ≡ at + length (length_fields ns.now) }
 {
     let mut next = at;
-    let mut i: usize = 0;
-    while i < ns.len() {
-        next = opus_size::put_size(data, next, wide(ns[i]));
-        i += 1;
+    for &n in ns {
+        next = opus_size::put_size(data, next, wide(n));
     }
     next
 }

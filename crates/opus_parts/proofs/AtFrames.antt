@@ -23,32 +23,35 @@ use Rattle.opus_format.specs.Reading.{Front, broken, front, own_last, last_lengt
 use Rattle.opus_format.specs.Reading.{unequal, own_equal, equal}
 use Rattle.opus_format.specs.Frames.{padded48}
 use Rattle.opus_parts.specs.Parts.{SizesRead, FramesRead}
-use Rattle.opus_parts.specs.declared.sizes_at.SizesAt.TheVariants.{All}
-use Rattle.opus_parts.specs.declared.frames_at.FramesAt.TheVariants.{At, Broken}
+use Rattle.std.specs.Prelude.{Err, Ok, Result}
 use Rattle.opus_format.proofs.Frames.{total_snoc, total-same}
 use Rattle.opus_parts.proofs.AtSizes.{padded_more, place_is, Known, known, Fitting, misfit, fit, fitting}
+
+-- a rule that is broken at a place
+abbrev broken_at : Rule → ℕ → Result (ℕ × ℕ) (Rule × ℕ)
+broken_at rule place = Err (rule, place)
 
 -- ---- frames from a place of the slice on
 -- of unequal lengths, the last of which is stored behind the others
 unequal_at : (s ns lengths : List ℕ) (n k next sum : ℕ) → length ns ≡ k → k < 48 → next ≤ length s → lengths ≡ padded48 ns → sum
     ≡ total ns + n
-    → FramesRead s (front (ns ++ (n ∷ [])) (drop next s)) (At next sum) (set lengths k n)
+    → FramesRead s (front (ns ++ (n ∷ [])) (drop next s)) (Ok (next, sum)) (set lengths k n)
 unequal_at s ns lengths n k next sum l b h f t =
     let all : total (ns ++ (n ∷ [])) ≡ sum = omega (arith, total_snoc ns n) in
     (rw (place_is s next h, all), ap (λ (x : List ℕ). set x k n) f ∙ padded_more ns n k l b)
 
 -- of one length
 equal_at_lem : (s lengths : List ℕ) (count n next sum : ℕ) → lengths ≡ padded48 (replicate count n) → next ≤ length s → sum ≡ count * n
-    → FramesRead s (front (replicate count n) (drop next s)) (At next sum) lengths
+    → FramesRead s (front (replicate count n) (drop next s)) (Ok (next, sum)) lengths
 equal_at_lem s lengths count n next sum f h t = (rw (place_is s next h, total-same count n, t), f)
 
 -- ---- unequal lengths
-pub sizes_inside : (s : List ℕ) (k next sum : ℕ) (lengths : List ℕ) → SizesRead s (together (read_fields k s)) (All next sum) lengths
+pub sizes_inside : (s : List ℕ) (k next sum : ℕ) (lengths : List ℕ) → SizesRead s (together (read_fields k s)) (Ok (next, sum)) lengths
     → (next ≤ length s) × (sum ≤ length s - next)
 sizes_inside s k next sum lengths e = let all = known s k next sum lengths e in (all.inside, all.fits)
 
 module _ (s : List ℕ) (k : ℕ) (r : Rule) where
-  module _ (next sum : ℕ) (lengths : List ℕ) (e : SizesRead s (together (read_fields k s)) (All next sum) lengths) where
+  module _ (next sum : ℕ) (lengths : List ℕ) (e : SizesRead s (together (read_fields k s)) (Ok (next, sum)) lengths) where
     found : Known s k next sum lengths
     found = known s k next sum lengths e
 
@@ -56,30 +59,30 @@ module _ (s : List ℕ) (k : ℕ) (r : Rule) where
     left = length-drop next s
 
     -- what breaks behind the fields points there
-    there : (x : Rule) → Broken x next ≡ Broken x (length s - length (drop next s))
-    there x = ap (Broken x) (sym (place_is s next found.inside))
+    there : (x : Rule) → broken_at x next ≡ broken_at x (length s - length (drop next s))
+    there x = ap (broken_at x) (sym (place_is s next found.inside))
 
-    pub rest_long : most_bytes < length s - next - sum → (l : List ℕ) → FramesRead s (unequal false r k s) (Broken R2 next) l
-    rest_long m l = rw (found.means, left, ← found.summed, lt-ltb _ _ m) (ap (Broken R2) (sym (place_is s next found.inside)), tt)
+    pub rest_long : most_bytes < length s - next - sum → (l : List ℕ) → FramesRead s (unequal false r k s) (Err (R2, next)) l
+    rest_long m l = rw (found.means, left, ← found.summed, lt-ltb _ _ m) (there R2, tt)
 
     pub rest_read : k < 48 → length s - next - sum ≤ most_bytes
-        → FramesRead s (unequal false r k s) (At next (length s - next)) (set lengths k (length s - next - sum))
+        → FramesRead s (unequal false r k s) (Ok (next, length s - next)) (set lengths k (length s - next - sum))
     rest_read b m =
         let n = length s - next - sum in
         let last : unequal false r k s ≡ front (found.ns ++ (n ∷ [])) (drop next s) = rw (found.means, left, ← found.summed, le-ltb _ _ m) in
         rw last (unequal_at s found.ns lengths n k next _ found.count b found.inside found.filled (omega (arith, found.summed, found.fits)))
 
-    pub own_short : read_field (drop next s) ≡ no_field → (l : List ℕ) → FramesRead s (unequal true r k s) (Broken R8 next) l
+    pub own_short : read_field (drop next s) ≡ no_field → (l : List ℕ) → FramesRead s (unequal true r k s) (Err (R8, next)) l
     own_short e l = rw (found.means, e) (there R8, tt)
 
     module _ (n first wide : ℕ) (g : Found s next n first) (q : wide ≡ n) where
-      pub own_over : length s - first < sum + wide → (l : List ℕ) → FramesRead s (unequal true r k s) (Broken R8 next) l
+      pub own_over : length s - first < sum + wide → (l : List ℕ) → FramesRead s (unequal true r k s) (Err (R8, next)) l
       own_over m l =
           let less : ltb (length (drop first s)) (total found.ns + n) ≡ true =
           lt-ltb (length (drop first s)) (total found.ns + n) (omega (arith, length-drop first s, found.summed)) in
           rw (found.means, g.means, less) (there R8, tt)
 
-      pub own_read : k < 48 → sum + wide ≤ length s - first → FramesRead s (unequal true r k s) (At first (sum + wide)) (set lengths k n)
+      pub own_read : k < 48 → sum + wide ≤ length s - first → FramesRead s (unequal true r k s) (Ok (first, sum + wide)) (set lengths k n)
       own_read b m =
           let enough : ltb (length (drop first s)) (total found.ns + n) ≡ false =
           le-ltb (length (drop first s)) (total found.ns + n) (omega (arith, length-drop first s, found.summed)) in
@@ -89,38 +92,38 @@ module _ (s : List ℕ) (k : ℕ) (r : Rule) where
 -- ---- equal lengths
 module _ (s : List ℕ) (count : ℕ) (r : Rule) where
   -- what breaks points at the front of the slice
-  at_front : (x : Rule) → Broken x 0 ≡ Broken x (length s - length s)
-  at_front x = let none : 0 ≡ length s - length s = omega arith in ap (Broken x) none
+  at_front : (x : Rule) → broken_at x 0 ≡ broken_at x (length s - length s)
+  at_front x = let none : 0 ≡ length s - length s = omega arith in ap (broken_at x) none
 
-  pub shared_uneven : (length s % count ≡ 0 → ⊥) → (l : List ℕ) → FramesRead s (equal false r count s) (Broken r 0) l
+  pub shared_uneven : (length s % count ≡ 0 → ⊥) → (l : List ℕ) → FramesRead s (equal false r count s) (Err (r, 0)) l
   shared_uneven n l = rw (ne_eqb _ _ n) (at_front r, tt)
 
   module _ (z : length s % count ≡ 0) where
-    pub shared_long : most_bytes < length s / count → (l : List ℕ) → FramesRead s (equal false r count s) (Broken R2 0) l
+    pub shared_long : most_bytes < length s / count → (l : List ℕ) → FramesRead s (equal false r count s) (Err (R2, 0)) l
     shared_long h l = rw (eq-eqb _ _ z, lt-ltb _ _ h) (at_front R2, tt)
 
     pub shared_read : (lengths : List ℕ) → lengths ≡ padded48 (replicate count (length s / count)) → length s / count ≤ most_bytes
-        → FramesRead s (equal false r count s) (At 0 (length s)) lengths
+        → FramesRead s (equal false r count s) (Ok (0, length s)) lengths
     shared_read lengths f h =
         let all : length s ≡ count * (length s / count) = omega (arith, div-add-mod (length s) count) in
         let each : equal false r count s ≡ front (replicate count (length s / count)) s = rw (eq-eqb _ _ z, le-ltb _ _ h) in
         rw each (equal_at_lem s lengths count (length s / count) 0 (length s) f (omega arith) all)
 
-  pub each-short : read_field s ≡ no_field → (l : List ℕ) → FramesRead s (equal true r count s) (Broken R8 0) l
+  pub each-short : read_field s ≡ no_field → (l : List ℕ) → FramesRead s (equal true r count s) (Err (R8, 0)) l
   each-short e l = rw e (at_front R8, tt)
 
   module _ (n first wide : ℕ) (g : Found s 0 n first) (q : wide ≡ n) where
     product : count * wide ≡ count * n
     product = ap (λ (x : ℕ). count * x) q
 
-    pub each_over : length s - first < count * wide → (l : List ℕ) → FramesRead s (equal true r count s) (Broken R8 0) l
+    pub each_over : length s - first < count * wide → (l : List ℕ) → FramesRead s (equal true r count s) (Err (R8, 0)) l
     each_over h l =
         let less : ltb (length (drop first s)) (count * n) ≡ true =
         lt-ltb (length (drop first s)) (count * n) (omega (arith, length-drop first s, product)) in
         rw (g.means, less) (at_front R8, tt)
 
     pub each_read : (lengths : List ℕ) → lengths ≡ padded48 (replicate count n) → count * wide ≤ length s - first
-        → FramesRead s (equal true r count s) (At first (count * wide)) lengths
+        → FramesRead s (equal true r count s) (Ok (first, count * wide)) lengths
     each_read lengths f h =
         let enough : ltb (length (drop first s)) (count * n) ≡ false =
         le-ltb (length (drop first s)) (count * n) (omega (arith, length-drop first s, product)) in

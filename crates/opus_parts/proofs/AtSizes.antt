@@ -27,7 +27,7 @@ use Rattle.opus_format.specs.Frames.{total}
 use Rattle.opus_format.specs.Reading.{Fields, no_fields, fields, before, read_fields, together}
 use Rattle.opus_format.specs.Frames.{padded48}
 use Rattle.opus_parts.specs.Parts.{sizes_at, SizesRead, stop_at, cut_at}
-use Rattle.opus_parts.specs.declared.sizes_at.SizesAt.TheVariants.{All, Cut}
+use Rattle.std.specs.Prelude.{Err, Ok}
 use Rattle.opus_format.proofs.Frames.{total-append, total_snoc}
 
 -- a place, from what stands behind it
@@ -198,12 +198,12 @@ module _ (s : List ℕ) (k : ℕ) where
 
     -- nothing is said of the array where the fields break
     broken_at : (t : List ℕ) (place : ℕ) → together (read_fields k s) ≡ no_fields t → place ≡ length s - length t → (l : List ℕ)
-        → SizesRead s (together (read_fields k s)) (Cut place) l
+        → SizesRead s (together (read_fields k s)) (Err place) l
     broken_at t place q e l = rw (q, e) (refl, tt)
 
     -- a field that is not whole
     pub sizes-cut : i < k → used < length s → read_field (drop next s) ≡ no_field → (place : ℕ) → place ≡ next → (l : List ℕ)
-        → SizesRead s (together (read_fields k s)) (Cut place) l
+        → SizesRead s (together (read_fields k s)) (Err place) l
     sizes-cut h b e place p l = broken_at (drop next s) place (rw (← all_go b, one_less h, e)) (p ∙ sym (place_is s next z.inside)) l
 
     none_left : k ≤ i → before_all z.done (read_fields (k - i) (drop next s)) ≡ fields z.done (drop next s)
@@ -211,13 +211,13 @@ module _ (s : List ℕ) (k : ℕ) where
 
     -- fields and lengths above the slice, each field that is left counted as a byte
     pub sizes-over : (j : ℕ) → j ≡ k - i → length s < used + j → (place : ℕ) → place ≡ cut_at s next last j → (l : List ℕ)
-        → SizesRead s (together (read_fields k s)) (Cut place) l
+        → SizesRead s (together (read_fields k s)) (Err place) l
     sizes-over j y h place p l = go z.rest
       where
         e : place ≡ cut_at s next last (k - i)
         e = rw (← y) p
 
-        go : Rest s k z.done next last i → SizesRead s (together (read_fields k s)) (Cut place) l
+        go : Rest s k z.done next last i → SizesRead s (together (read_fields k s)) (Err place) l
         go (broke q f) =
             let at = next - length (length_field last) in
             let inside : at ≤ length s = omega (arith, z.inside) in
@@ -229,17 +229,17 @@ module _ (s : List ℕ) (k : ℕ) where
             there = rw (le-ltb (length s - next) last f) at e
 
             found : (r : Fields) → read_fields (k - i) (drop next s) ≡ r → Placed s next (k - i) r
-                → SizesRead s (together (read_fields k s)) (Cut place) l
+                → SizesRead s (together (read_fields k s)) (Err place) l
             found r w (nowhere t a) = broken_at t place (rw (← q, w)) (rw w at there) l
             found r w (here ns end c a b) =
                 let long : ltb (length (drop end s)) (total (z.done ++ ns)) ≡ true =
                 lt-ltb (length (drop end s)) (total (z.done ++ ns)) (omega (arith, length-drop end s, total-append z.done ns, z.summed)) in
                 broken_at (drop end s) place (rw (← q, w, long)) (rw w at there) l
 
-    pub sizes_end : k ≤ i → used ≤ length s → SizesRead s (together (read_fields k s)) (All next (used - next)) lengths
+    pub sizes_end : k ≤ i → used ≤ length s → SizesRead s (together (read_fields k s)) (Ok (next, used - next)) lengths
     sizes_end h fits = go z.rest
       where
-        go : Rest s k z.done next last i → SizesRead s (together (read_fields k s)) (All next (used - next)) lengths
+        go : Rest s k z.done next last i → SizesRead s (together (read_fields k s)) (Ok (next, used - next)) lengths
         go (broke q f) = absurd (omega (arith, z.summed, z.over, z.inside))
         go (goes q f) =
             let sums : used - next ≡ total z.done = omega (arith, z.summed) in
@@ -322,15 +322,15 @@ pub record Known (s : List ℕ) (k next sum : ℕ) (lengths : List ℕ) : Type 0
   pub means : together (read_fields k s) ≡ fields ns (drop next s)
 
 module _ (s : List ℕ) (k : ℕ) where
-  pub known : (next sum : ℕ) (lengths : List ℕ) → SizesRead s (together (read_fields k s)) (All next sum) lengths → Known s k next sum lengths
+  pub known : (next sum : ℕ) (lengths : List ℕ) → SizesRead s (together (read_fields k s)) (Ok (next, sum)) lengths → Known s k next sum lengths
   known next sum lengths e = go (together (read_fields k s)) refl (fitting s k)
     where
       go : (r : Fields) → together (read_fields k s) ≡ r → Fitting s k r → Known s k next sum lengths
       go r q (misfit t h) = never (let p = rw q at e.0 in cc)
       go r q (fit ns next₂ l h room) =
           let p = rw (q, place_is s next₂ h) at e.0 in
-          let same : next ≡ next₂ = cc in
-          let sums : sum ≡ total ns = cc in
+          let same : next ≡ next₂ = let both : (next, sum) ≡ (next₂, total ns) = cc in ap (λ (x : ℕ × ℕ). x.0) both in
+          let sums : sum ≡ total ns = let both : (next, sum) ≡ (next₂, total ns) = cc in ap (λ (x : ℕ × ℕ). x.1) both in
           record {
             ns = ns;
             count = l;
@@ -342,7 +342,7 @@ module _ (s : List ℕ) (k : ℕ) where
           }
 
   -- or they break, and where
-  pub none_known : (place : ℕ) → Cut place ≡ sizes_at (length s) (together (read_fields k s))
+  pub none_known : (place : ℕ) → Err place ≡ sizes_at (length s) (together (read_fields k s))
       → (t : List ℕ) × (together (read_fields k s) ≡ no_fields t) × (place ≡ length s - length t)
   none_known place e = go (together (read_fields k s)) refl
     where

@@ -6,14 +6,6 @@ ghost use Rattle.opus_format.specs.Frames.{padded48};
 ghost use Rattle.opus_parts.specs.Parts.{SizesRead, stop_at, cut_at};
 
 use opus_defines::{wide, wide_byte};
-use opus_size::SizeAt;
-
-// Several length fields at the front of a slice: the place behind them and the sum of the lengths, or the place where they break.
-#[derive(Clone, Copy)]
-pub enum SizesAt {
-    All(usize, usize),
-    Cut(usize),
-}
 
 // Where k length fields from a place on break: at the first that is not whole or above what stands behind it, else behind them.
 fn break_at(s: &[u8], from: usize, k: usize) -> usize
@@ -21,17 +13,15 @@ fn break_at(s: &[u8], from: usize, k: usize) -> usize
     ensures { result ≡ stop_at (length s.now) (read_fields k (drop from s.now)) }
 {
     let mut next = from;
-    let mut i: usize = 0;
-    while i < k {
+    for _ in 0..k {
         let f = opus_size::size_at(s, next);
-        let SizeAt::Whole(size, after) = f else {
+        let Some((size, after)) = f else {
             return next;
         };
         if s.len() - after < wide(size) {
             return next;
         }
         next = after;
-        i += 1;
     }
     next
 }
@@ -47,9 +37,11 @@ fn cut_at(s: &[u8], next: usize, last: usize, k: usize) -> usize
     break_at(s, next, k)
 }
 
+// Several length fields at the front of a slice: the place behind them and the sum of the lengths, or the place where they break.
+//
 // Fields and frames together are held against the slice as they are read: where they do not fit, that is seen at the first length that shows it, and no
 // field is read twice. A field is not read by `size_at`: where `used` is within the slice its first byte is there, and needs no test of its own.
-pub fn read_sizes(s: &[u8], k: usize, lengths: &mut [u16; 48]) -> SizesAt
+pub fn read_sizes(s: &[u8], k: usize, lengths: &mut [u16; 48]) -> Result<(usize, usize), usize>
     requires { (k < 48) × (lengths.old ≡ padded48 []) }
     ensures { SizesRead s.now (together (read_fields k s.now)) result lengths.new }
 {
@@ -57,17 +49,16 @@ pub fn read_sizes(s: &[u8], k: usize, lengths: &mut [u16; 48]) -> SizesAt
     let mut next: usize = 0;
     let mut used: usize = 0;
     let mut last: usize = 0;
-    let mut i: usize = 0;
-    while i < k {
+    for i in 0..k {
         if s.len() <= used {
-            return SizesAt::Cut(cut_at(s, next, last, k - i));
+            return Err(cut_at(s, next, last, k - i));
         }
         last = wide_byte(s[next]);
         next += 1;
         used += 1 + last;
         if 252 <= last {
             if s.len() <= next {
-                return SizesAt::Cut(next - 1);
+                return Err(next - 1);
             }
             let more = 4 * wide_byte(s[next]);
             last += more;
@@ -75,12 +66,11 @@ pub fn read_sizes(s: &[u8], k: usize, lengths: &mut [u16; 48]) -> SizesAt
             next += 1;
         }
         lengths[i] = last as u16;
-        i += 1;
     }
     if s.len() < used {
-        return SizesAt::Cut(cut_at(s, next, last, 0));
+        return Err(cut_at(s, next, last, 0));
     }
-    SizesAt::All(next, used - next)
+    Ok((next, used - next))
 }
 
 // Equal lengths.
@@ -88,9 +78,7 @@ pub fn same_lengths(count: usize, n: u16, lengths: &mut [u16; 48])
     requires { (count ≤ 48) × (lengths.old ≡ padded48 []) }
     ensures { lengths.new ≡ padded48 (replicate count n) }
 {
-    let mut i: usize = 0;
-    while i < count {
-        lengths[i] = n;
-        i += 1;
+    for length in &mut lengths[..count] {
+        *length = n;
     }
 }

@@ -7,7 +7,7 @@
 use Prim.Native.Nat.{ℕ, suc, ◌+◌, ◌*◌, ◌-◌, ◌≤◌, ◌<◌}
 use native.Mathlib.Omega.{arith}
 use native.Mathlib.Numerals.{add-one}
-use mathlib.Core.Path.{◌≡◌, ◌∙◌}
+use mathlib.Core.Path.{◌≡◌, ap, ◌∙◌}
 use mathlib.Core.List.{List, [], ◌∷◌}
 use lib.Dec.{ltb, leb}
 use lib.ListN.{length, get_or, drop, drop_of_length-le, length-drop}
@@ -15,9 +15,8 @@ use lib.Seq.{drop-cons}
 use borrow.Author.Tests.{le-ltb, leb-true, leb-false, ltb-true, ltb-false, ne_eqb}
 use Rattle.laws.proofs.Never.{never, by_test}
 use Rattle.opus_size.specs.Size.{read_field, no_field, field}
-use Rattle.opus_size.specs.Answers.{placed, size_at, no_size, size_told, parse_size}
-use Rattle.opus_size.specs.declared.SizeAt.TheVariants.{Whole, Short}
-use Rattle.opus_defines.specs.declared.Verdict.TheVariants.{Accepted}
+use Rattle.opus_size.specs.Answers.{placed, size_at, size_told, parse_size}
+use Rattle.std.specs.Prelude.{None, Some, Ok, Err}
 use Rattle.opus_defines.specs.declared.Refusal.TheVariants.{BadArg, CutShort}
 use Rattle.opus_defines.specs.declared.Rule.{Rule}
 use Rattle.opus_defines.specs.declared.Rule.TheVariants.{R4, R7, R8}
@@ -43,23 +42,23 @@ module _ (s : List ℕ) (at : ℕ) where
       rw (first, second, next, add-one at) (read_long (get_or s at 0) (get_or s (suc at) 0) (drop (suc (suc at)) s) k)
 
 -- a place within the slice, from what is left behind it
-behind : (s : List ℕ) (next n : ℕ) → next ≤ length s → Whole n next ≡ placed (length s) (field n (drop next s))
+behind : (s : List ℕ) (next n : ℕ) → next ≤ length s → Some (n, next) ≡ placed (length s) (field n (drop next s))
 behind s next n h = let e : length s - length (drop next s) ≡ next = omega (arith, length-drop next s) in rw e
 
 module _ (s : List ℕ) (at : ℕ) where
-  pub at_end : length s ≤ at → Short ≡ size_at s at
+  pub at_end : length s ≤ at → None ≡ size_at s at
   unfolding size_at
   at_end h = rw (read_end s at h)
 
-  pub at_short : at < length s → get_or s at 0 < 252 → Whole (get_or s at 0) (at + 1) ≡ size_at s at
+  pub at_short : at < length s → get_or s at 0 < 252 → Some (get_or s at 0, at + 1) ≡ size_at s at
   unfolding size_at
   at_short h k = rw (read_one s at h k) (behind s (at + 1) (get_or s at 0) (omega arith))
 
-  pub at_cut : at < length s → 252 ≤ get_or s at 0 → length s ≤ at + 1 → Short ≡ size_at s at
+  pub at_cut : at < length s → 252 ≤ get_or s at 0 → length s ≤ at + 1 → None ≡ size_at s at
   unfolding size_at
   at_cut h k l = rw (read-cut s at h l k)
 
-  pub at_long : at + 1 < length s → 252 ≤ get_or s at 0 → Whole (4 * get_or s (at + 1) 0 + get_or s at 0) (at + 2) ≡ size_at s at
+  pub at_long : at + 1 < length s → 252 ≤ get_or s at 0 → Some (4 * get_or s (at + 1) 0 + get_or s at 0, at + 2) ≡ size_at s at
   unfolding size_at
   at_long h k = rw (read_two s at h k) (behind s (at + 2) (4 * get_or s (at + 1) 0 + get_or s at 0) (omega arith))
 
@@ -87,19 +86,20 @@ pub record Found (s : List ℕ) (at n next : ℕ) : Type 0 where
   pub within : next ≤ length s
   pub means : read_field (drop at s) ≡ field n (drop next s)
 
-pub whole_was : (s : List ℕ) (at n next : ℕ) → size_at s at ≡ Whole n next → Found s at n next
+pub whole_was : (s : List ℕ) (at n next : ℕ) → size_at s at ≡ Some (n, next) → Found s at n next
 unfolding size_at
 whole_was s at n next e = go (read_at s at)
   where
     go : Read s at → Found s at n next
     go (nothing r) = never (let q = rw r at e in cc)
     go (something n₂ next₂ l w r) =
-        let q : Whole n₂ next₂ ≡ Whole n next = behind s next₂ n₂ w ∙ rw r at e in
-        let same : n₂ ≡ n = cc in
-        let place : next₂ ≡ next = cc in
+        let q : placed (length s) (field n₂ (drop next₂ s)) ≡ Some (n, next) = rw r at e in
+        let p = behind s next₂ n₂ w ∙ q in
+        let same : n₂ ≡ n = let both : (n₂, next₂) ≡ (n, next) = cc in ap (λ (x : ℕ × ℕ). x.0) both in
+        let place : next₂ ≡ next = let both : (n₂, next₂) ≡ (n, next) = cc in ap (λ (x : ℕ × ℕ). x.1) both in
         record { later = omega arith; within = omega arith; means = rw (← same, ← place) r }
 
-pub short_was : (s : List ℕ) (at : ℕ) → size_at s at ≡ Short → read_field (drop at s) ≡ no_field
+pub short_was : (s : List ℕ) (at : ℕ) → size_at s at ≡ None → read_field (drop at s) ≡ no_field
 unfolding size_at
 short_was s at e = go (read_at s at)
   where
@@ -108,11 +108,11 @@ short_was s at e = go (read_at s at)
     go (something n next l w r) = never (let q = rw r at e in cc)
 
 module _ (s : List ℕ) (rule : Rule) where
-  pub front-short : size_at s 0 ≡ Short → no_size (CutShort rule) ≡ size_told rule s
+  pub front-short : size_at s 0 ≡ None → Err (CutShort rule) ≡ size_told rule s
   unfolding size_told
   front-short e = rw (short_was s 0 e)
 
-  pub front_whole : (n next : ℕ) → size_at s 0 ≡ Whole n next → record { verdict = Accepted; bytes = next; size = n } ≡ size_told rule s
+  pub front_whole : (n next : ℕ) → size_at s 0 ≡ Some (n, next) → Ok (record { bytes = next; size = n }) ≡ size_told rule s
   unfolding size_told
   front_whole n next e =
       let f = whole_was s 0 n next e in
@@ -133,6 +133,6 @@ module _ (s : List ℕ) (told : ℕ) where
   unfolding parse_size
   told_8 e = rw e
 
-  pub told_other : (told ≡ 4 → ⊥) → (told ≡ 7 → ⊥) → (told ≡ 8 → ⊥) → no_size BadArg ≡ parse_size told s
+  pub told_other : (told ≡ 4 → ⊥) → (told ≡ 7 → ⊥) → (told ≡ 8 → ⊥) → Err BadArg ≡ parse_size told s
   unfolding parse_size
   told_other a b c = rw (ne_eqb told 4 a, ne_eqb told 7 b, ne_eqb told 8 c)

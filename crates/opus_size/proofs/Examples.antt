@@ -4,7 +4,9 @@ use Prim.Native.Nat.{ℕ}
 use mathlib.Core.Path.{◌≡◌, refl}
 use mathlib.Core.List.{List, [], ◌∷◌, map}
 use lib.IntN.{ℤ, pos, negsuc}
-use Rattle.opus_defines.specs.Numbers.{plain, verdict_report}
+use Rattle.opus_defines.specs.Numbers.{plain, refusal_report}
+use Rattle.opus_defines.specs.declared.Refusal.{Refusal}
+use Rattle.std.specs.Prelude.{Ok, Err, Result}
 use Rattle.opus_defines.specs.Outcome.{Outcome}
 use Rattle.opus_defines.specs.declared.Report.{Report}
 use Rattle.opus_size.specs.Size.{length_field}
@@ -37,8 +39,9 @@ pub record Told : Type 0 where
   pub bytes : ℕ
   pub size : ℕ
 
-abbrev told : Size → Told
-told r = record { report = verdict_report r.bytes r.verdict; bytes = r.bytes; size = r.size }
+abbrev told : Result Size Refusal → Told
+told (Ok r) = record { report = plain (pos r.bytes); bytes = r.bytes; size = r.size }
+told (Err e) = record { report = refusal_report e; bytes = 0; size = 0 }
 
 abbrev tells : ℕ → ℕ → Told
 tells bytes size = record { report = plain (pos bytes); bytes = bytes; size = size }

@@ -11,7 +11,7 @@ use lib.Seq.{sets}
 use borrow.Author.Tests.{lt-ltb, le-ltb}
 use Rattle.laws.proofs.Never.{never}
 use Rattle.opus_defines.specs.Numbers.{count_of, refusal_number}
-use Rattle.opus_defines.specs.declared.Count.TheVariants.{Is, Negative}
+use Rattle.std.specs.Prelude.{None, Some}
 use Rattle.opus_defines.specs.declared.Refusal.TheVariants.{BadArg, BufferTooSmall}
 use Rattle.opus_defines.proofs.Counts.{is_natural}
 use Rattle.opus_size.specs.Size.{most_bytes, length_field}
@@ -29,15 +29,15 @@ module _ (l : List ℕ) (at n : ℕ) where
 
 -- what `encode_size` leaves, by the tests on its way
 module _ (z : ℤ) (s : List ℕ) where
-  pub encode_negative : count_of z ≡ Negative → (refusal_number BadArg ≡ (encode_size z s).report.number) × (s ≡ (encode_size z s).bytes)
+  pub encode_negative : count_of z ≡ None → (refusal_number BadArg ≡ (encode_size z s).report.number) × (s ≡ (encode_size z s).bytes)
   unfolding encode_size
   encode_negative = go z
     where
-      go : (z : ℤ) → count_of z ≡ Negative → (refusal_number BadArg ≡ (encode_size z s).report.number) × (s ≡ (encode_size z s).bytes)
+      go : (z : ℤ) → count_of z ≡ None → (refusal_number BadArg ≡ (encode_size z s).report.number) × (s ≡ (encode_size z s).bytes)
       go (pos n) e = never (cc)
       go (negsuc n) e = (refl, refl)
 
-  module _ (n : ℕ) (e : count_of z ≡ Is n) where
+  module _ (n : ℕ) (e : count_of z ≡ Some n) where
     is_pos : z ≡ pos n
     is_pos = is_natural z n e
 

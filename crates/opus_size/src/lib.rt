@@ -4,19 +4,12 @@
 ghost use Rattle.std.specs.Prelude.{◌≡◌, ◌+◌, ◌*◌, ◌<◌, ◌≤◌, length};
 ghost use Rattle.std.proofs.lemmas.List.Edits.{sets};
 ghost use Rattle.opus_size.specs.Size.{most_bytes, length_field};
-ghost use Rattle.opus_size.specs.Answers.{encode_size, no_size, size_told, parse_size, size_at};
+ghost use Rattle.opus_size.specs.Answers.{encode_size, size_told, parse_size, size_at};
 
-use opus_defines::{Answer, Count, Refusal, Rule, Verdict};
+use opus_defines::{Refusal, Rule};
 
 // The longest frame, in bytes.
 pub const MOST_BYTES: usize = 1275;
-
-// A length at a place: the size and the place behind its field, or that the field is not whole.
-#[derive(Clone, Copy)]
-pub enum SizeAt {
-    Whole(u16, usize),
-    Short,
-}
 
 // The size that a field of two bytes says.
 fn two_bytes(first: u8, second: u8) -> u16
@@ -25,63 +18,47 @@ fn two_bytes(first: u8, second: u8) -> u16
     4 * (second as u16) + (first as u16)
 }
 
-pub fn size_at(data: &[u8], at: usize) -> SizeAt
+// A length at a place: the size, and the place behind its field, if that is whole.
+pub fn size_at(data: &[u8], at: usize) -> Option<(u16, usize)>
     ensures { result ≡ size_at «data».now at }
 {
     if data.len() <= at {
-        return SizeAt::Short;
+        return None;
     }
     let first = data[at];
     if first < 252 {
-        return SizeAt::Whole(first as u16, at + 1);
+        return Some((first as u16, at + 1));
     }
     if data.len() <= at + 1 {
-        return SizeAt::Short;
+        return None;
     }
-    SizeAt::Whole(two_bytes(first, data[at + 1]), at + 2)
+    Some((two_bytes(first, data[at + 1]), at + 2))
 }
 
-// What `parse_size` answers: the bytes used and the size, both 0 beside a refusal.
-#[derive(Clone, Copy)]
+// What `parse_size` answers: the bytes used and the size.
+#[derive(Clone, Copy, Debug, PartialEq, Eq)]
 pub struct Size {
-    pub verdict: Verdict,
     pub bytes: usize,
     pub size: u16,
 }
 
-fn no_size(e: Refusal) -> Size
-    ensures { result ≡ no_size e }
-{
-    Size {
-        verdict: Verdict::Refused(e),
-        bytes: 0,
-        size: 0,
-    }
-}
-
 // The length at the front of `data`, for which a rule asks.
-fn size_told(data: &[u8], rule: Rule) -> Size
+fn size_told(data: &[u8], rule: Rule) -> Result<Size, Refusal>
     ensures { result ≡ size_told rule «data».now }
 {
-    let SizeAt::Whole(size, bytes) = size_at(data, 0) else {
-        return no_size(Refusal::CutShort(rule));
-    };
-    Size {
-        verdict: Verdict::Accepted,
-        bytes,
-        size,
-    }
+    let (size, bytes) = size_at(data, 0).ok_or(Refusal::CutShort(rule))?;
+    Ok(Size { bytes, size })
 }
 
 // The length at the front of `data`, told that rule 4, 7 or 8 asks for it.
-pub fn parse_size(data: &[u8], rule: u16) -> Size
+pub fn parse_size(data: &[u8], rule: u16) -> Result<Size, Refusal>
     ensures { result ≡ parse_size rule «data».now }
 {
     match rule {
         4 => size_told(data, Rule::R4),
         7 => size_told(data, Rule::R7),
         8 => size_told(data, Rule::R8),
-        _ => no_size(Refusal::BadArg),
+        _ => Err(Refusal::BadArg),
     }
 }
 
@@ -112,7 +89,7 @@ pub fn encode_size(size: i32, data: &mut [u8]) -> i32
     ensures number { result ≡ (encode_size size «data».old).report.number }
     ensures bytes { «data».new ≡ (encode_size size «data».old).bytes }
 {
-    let Count::Is(n) = opus_defines::count_of(size) else {
+    let Some(n) = opus_defines::count_of(size) else {
         return opus_defines::refusal_number(Refusal::BadArg);
     };
     if MOST_BYTES < n {
@@ -122,5 +99,5 @@ pub fn encode_size(size: i32, data: &mut [u8]) -> i32
         return opus_defines::refusal_number(Refusal::BufferTooSmall);
     }
     let next = put_size(data, 0, n);
-    opus_defines::number_of(Answer::Number(next as u16))
+    opus_defines::number_of(Ok(next as u16))
 }

@@ -8,7 +8,7 @@ ghost use Rattle.opus_defines.specs.Numbers.{number_of};
 ghost use Rattle.opus_toc.specs.Toc.{configuration, samples, time};
 ghost use Rattle.opus_toc.specs.Answers.{divisor_of, samples_at, samples_per_frame, nb_frames};
 
-use opus_defines::{Answer, Count, Refusal};
+use opus_defines::Refusal;
 
 // Samples at 48 kHz: what the reader's limit of 120 ms is counted in.
 #[derive(Clone, Copy)]
@@ -127,47 +127,47 @@ fn divisor(rate: usize) -> u16
 }
 
 // Samples per frame of a packet at a rate in Hz; BadArg for an empty packet or a rate that is none of the five.
-fn samples_per_frame(data: &[u8], rate: usize) -> Answer
+fn samples_per_frame(data: &[u8], rate: usize) -> Result<u16, Refusal>
     ensures { result ≡ samples_at «data».now rate }
 {
     if data.len() == 0 {
-        return Answer::Refused(Refusal::BadArg);
+        return Err(Refusal::BadArg);
     }
     let d = divisor(rate);
     if d == 0 {
-        return Answer::Refused(Refusal::BadArg);
+        return Err(Refusal::BadArg);
     }
     let each = samples_in_table(data[0]);
-    Answer::Number(each.0 / d)
+    Ok(each.0 / d)
 }
 
 pub fn opus_packet_get_samples_per_frame(data: &[u8], rate: i32) -> i32
     ensures { result ≡ samples_per_frame «data».now rate }
 {
-    let Count::Is(hz) = opus_defines::count_of(rate) else {
+    let Some(hz) = opus_defines::count_of(rate) else {
         return opus_defines::refusal_number(Refusal::BadArg);
     };
     opus_defines::number_of(samples_per_frame(data, hz))
 }
 
 // How many frames the TOC byte and, for code 3, the count byte say.
-pub fn nb_frames(data: &[u8]) -> Answer
+pub fn nb_frames(data: &[u8]) -> Result<u16, Refusal>
     ensures { result ≡ nb_frames «data».now }
 {
     if data.len() == 0 {
-        return Answer::Refused(Refusal::BadArg);
+        return Err(Refusal::BadArg);
     }
     let code = data[0] % 4;
     if code == 0 {
-        return Answer::Number(1);
+        return Ok(1);
     }
     if code != 3 {
-        return Answer::Number(2);
+        return Ok(2);
     }
     if data.len() < 2 {
-        return Answer::Refused(Refusal::InvalidPacket);
+        return Err(Refusal::InvalidPacket);
     }
-    Answer::Number((data[1] % 64) as u16)
+    Ok((data[1] % 64) as u16)
 }
 
 pub fn opus_packet_get_nb_frames(data: &[u8]) -> i32

@@ -21,7 +21,7 @@ use Rattle.opus_defines.proofs.Others.{other_or}
 use Rattle.opus_defines.specs.declared.Rule.{Rule}
 use Rattle.opus_defines.specs.declared.Refusal.{Refusal}
 use Rattle.opus_defines.specs.declared.Refusal.TheVariants.{BadArg, Unreadable as Breaks}
-use Rattle.opus_defines.specs.declared.Verdict.TheVariants.{Accepted, Refused as Refuses}
+use Rattle.std.specs.Prelude.{Err, Ok}
 use Rattle.opus_defines.proofs.Outcomes.{rule_or}
 use Rattle.opus_size.specs.Size.{most_bytes}
 use Rattle.opus_toc.specs.Toc.{upper_six}
@@ -29,12 +29,10 @@ use Rattle.opus_format.specs.Frames.{total, longest}
 use Rattle.opus_format.specs.Reading.{accepted}
 use Rattle.opus_format.specs.Dirt.{padding_of, dirty}
 use Rattle.opus_format.proofs.Facts.{facts}
-use Rattle.opus.specs.Answers.{parsed, answer_of}
+use Rattle.opus.specs.Answers.{parsed}
 use Rattle.opus.specs.declared.Packet.{Packet}
-use Rattle.opus.specs.declared.PacketHead.{PacketHead}
 use Rattle.opus.proofs.AtPacket.{parse_long}
 use Rattle.opus.proofs.Parsed.{lengths_of, parsed_accepted, parsed_refused}
-use Rattle.opus.proofs.Lent.{packet_with, lent_accepted, lent_refused}
 use Rattle.opus_header.specs.Sums.{sums_of}
 use Rattle.opus_header.specs.Forms.{compact_bytes}
 use Rattle.opus_header.specs.declared.Sums.{Sums}
@@ -52,27 +50,24 @@ other_unread e u = sym (other_or Unreadable (Refused e) e u)
 rule_unread : (rule : Rule) (place : ℕ) → unread (rule_refusal rule place) ≡ Unreadable rule place
 rule_unread rule place = rule_or Unreadable (Refused (rule_refusal rule place)) rule place
 
-module _ (sd : Bool) (p : List ℕ) (h : PacketHead) (l : List ℕ) (e : answer_of h l ≡ parsed sd p) where
-  pub refused_told : (c : Refusal) → h.verdict ≡ Refuses c → unread c ≡ judged sd p
+module _ (sd : Bool) (p : List ℕ) (c : Refusal) (e : Err c ≡ parsed sd p) where
+  pub refused_told : unread c ≡ judged sd p
   unfolding judged judge_read
-  refused_told c v =
+  refused_told =
       by_test (ltb 65535 (length p))
-      (λ t. let none = lent_refused sd p h l e c v ∙ sym (parse_long sd p (ltb-true 65535 (length p) t)) in
-      let same : Refuses c ≡ Refuses BadArg = ap (λ (x : Packet). x.verdict) none in
+      (λ t. let none = e ∙ sym (parse_long sd p (ltb-true 65535 (length p) t)) in
       let is : c ≡ BadArg = cc in
       rw (t, is))
-      (λ t. let r = parsed_refused sd p (answer_of h l) e c v (ltb-false 65535 (length p) t) in
+      (λ t. let r = parsed_refused sd p c e (ltb-false 65535 (length p) t) in
       rw (t, r.3) (ap unread r.2 ∙ rule_unread r.0 r.1))
 
-  pub refused_least : (c : Refusal) → h.verdict ≡ Refuses c → length p ≡ least_length sd p
-  refused_least c v =
+  pub refused_least : length p ≡ least_length sd p
+  refused_least =
       by_test (ltb 65535 (length p)) (λ t. sym (least_long sd p (ltb-true 65535 (length p) t)))
-      (λ t. let r = parsed_refused sd p (answer_of h l) e c v (ltb-false 65535 (length p) t) in sym (least_unread sd p r.0 r.1 r.3))
+      (λ t. let r = parsed_refused sd p c e (ltb-false 65535 (length p) t) in sym (least_unread sd p r.0 r.1 r.3))
 
-  -- ---- accepted, with the reader's answer
-  abbrev answer : Packet
-  answer = packet_with h l
-
+-- ---- accepted, with the reader's answer
+module _ (sd : Bool) (p : List ℕ) (answer : Packet) (e : Ok answer ≡ parsed sd p) where
   pub record Readable : Type 0 where
     pub inside : answer.count ≤ length answer.lengths
     pub some : (1 ≤ length (lengths_of answer)) × (length (lengths_of answer) ≤ 48) × (longest (lengths_of answer) ≤ most_bytes)
@@ -80,11 +75,11 @@ module _ (sd : Bool) (p : List ℕ) (h : PacketHead) (l : List ℕ) (e : answer_
     pub goes_by : {j : Judged} → j ≡ judge_read sd p (accepted answer.toc (lengths_of answer) answer.first answer.taken) → j ≡ judged sd p
     pub least_by : {n : ℕ} → n ≡ least_read sd p (accepted answer.toc (lengths_of answer) answer.first answer.taken) → n ≡ least_length sd p
 
-  pub readable : Bytes p → h.verdict ≡ Accepted → Readable
+  pub readable : Bytes p → Readable
   unfolding judged
-  readable bytes v =
+  readable bytes =
       let q = answer in
-      let d = parsed_accepted sd p q (lent_accepted sd p h l e v) v in
+      let d = parsed_accepted sd p q e in
       let f = facts sd p q.toc (lengths_of q) q.first q.taken bytes d.means in
       record {
         inside = d.inside;

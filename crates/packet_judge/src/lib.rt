@@ -9,7 +9,7 @@ ghost use Rattle.packet_judge.specs.Judging.{unread, said, judge_read, judged as
 ghost use Rattle.packet_judge.specs.Tallies.{tallied as Tallies·tallied, sum_of};
 
 use opus::Short;
-use opus_defines::{Refusal, Rule, Verdict, wide};
+use opus_defines::{Refusal, Rule, wide};
 
 // What a packet is judged to be.
 #[derive(Clone, Copy)]
@@ -89,17 +89,12 @@ fn weigh_whole(data: &[u8], self_delimited: bool) -> Weighed
     ensures least { result.least ≡ least_length self_delimited «data».now }
 {
     let mut lengths = [0u16; 48];
-    let p = opus::read_into(data, self_delimited, &mut lengths);
-    let v = p.verdict;
-    let Verdict::Refused(e) = v else {
-        let n = p.count;
-        let first = p.first;
-        let taken = p.taken;
-        return weigh_read(data, self_delimited, &lengths[..n], first, taken);
-    };
-    Weighed {
-        verdict: refused(e),
-        least: data.len(),
+    match opus::read_into(data, self_delimited, &mut lengths) {
+        Ok(p) => weigh_read(data, self_delimited, &lengths[..p.count], p.first, p.taken),
+        Err(e) => Weighed {
+            verdict: refused(e),
+            least: data.len(),
+        },
     }
 }
 

@@ -1,6 +1,6 @@
 -- Lengths and numbers of packets by words of eight bytes.
 --     eight_go, go_place, go_fewer, first_goes, last_goes   numbers that go by 0 or 1, eight steps at a time
---     Sums, sums-..; Eights, eights-..                      four sums of lengths in one word; eight lengths at a time
+--     Sums, sums-..                                         four sums of lengths in one word
 --     Held; sums_four, fours_more, twos_more, ones_more     lengths that are there; with four, two or one more
 --     told_quick, told_wrong, told_well                     what is told in the end
 -- Assumes nothing.
@@ -185,24 +185,6 @@ lanes_short w x y z v p q r s e f =
 
 one_short : (w : ℕ) → w < 65536 → bit_and w 0xFC00FC00FC00FC00 ≡ 0 → w < 1024
 one_short w p f = (lanes_short w w 0 0 0 p (omega arith) (omega arith) (omega arith) (omega arith) f).x_short
-
--- eight lengths at a time, of the first m
-pub record Eights (ns : List ℕ) (m sum i : ℕ) : Type 0 where
-  pub q : ℕ
-  pub i_is : i ≡ q * 8
-  pub within : q ≤ m / 8
-  pub sums : Sums ns sum i
-
-pub eights_none : (ns : List ℕ) (m : ℕ) → Eights ns m 0 0
-eights_none ns m = record { q = 0; i_is = refl; within = omega arith; sums = sums_none ns }
-
-module _ {ns : List ℕ} {m sum i : ℕ} (g : Eights ns m sum i) (f : i ≡ m / 8 * 8 → ⊥) where
-  pub eights_left : i + 8 ≤ m
-  eights_left = let h : (g.q ≡ m / 8 → ⊥) = λ e. f (omega (arith, g.i_is, e)) in omega (arith, g.i_is, g.within, h)
-
-  pub eights_more : {sum' : ℕ} → Sums ns sum' (i + 4 + 4) → Eights ns m sum' (i + 8)
-  eights_more s =
-      record { q = g.q + 1; i_is = omega (arith, g.i_is); within = omega (arith, g.i_is, eights_left); sums = sums_as refl (omega arith) s }
 
 -- ---- the four sums put together
 module _ {ns : List ℕ} {sum i : ℕ} (g : Sums ns sum i) (few : i ≤ 48) where

@@ -20,7 +20,7 @@ pub struct Looked {
 fn excess(n: u16) -> u16
     ensures { result ≡ excess n }
 {
-    if 1274 < n { n - 1274 } else { 0 }
+    n.saturating_sub(1274)
 }
 
 // Above 1 exactly where a number is neither the one before it nor the next: numbers that begin at 0 and go by 0 or 1 do not reach 255, where the next
@@ -45,11 +45,9 @@ pub fn look(ns: &[u16], ks: &[u8]) -> Looked
 {
     let mut sum = ns[0];
     let mut wrong = excess(ns[0]) | start(ks[0]);
-    let mut i: usize = 1;
-    while i < ns.len() {
-        sum = std::num::wrapping_add_u16(sum, ns[i]);
+    for i in 1..ns.len() {
+        sum = sum.wrapping_add(ns[i]);
         wrong = wrong | excess(ns[i]) | jump(ks[i - 1], ks[i]);
-        i += 1;
     }
     Looked { total: sum, wrong }
 }

@@ -81,8 +81,8 @@ fn total_of(ns: &[u16], n: usize) -> usize
     let m = n - 1;
     let eights = m / 8 * 8;
     let mut sum: usize = 0;
-    let mut i: usize = 0;
-    while i != eights {
+    for k in 0..m / 8 {
+        let i = 8 * k;
         let a = four_lengths(ns, i);
         if over(a) {
             return NOT_SOUND;
@@ -92,7 +92,6 @@ fn total_of(ns: &[u16], n: usize) -> usize
             return NOT_SOUND;
         }
         sum = sum + a + b;
-        i += 8;
     }
     if m / 4 % 2 == 1 {
         let a = four_lengths(ns, eights);

@@ -21,7 +21,7 @@ use Rattle.opus_defines.specs.Numbers.{report_of}
 use Rattle.opus_defines.specs.Outcome.{Effect, refusal, wrote, written, leaves, refuses}
 use Rattle.opus_defines.specs.declared.Refusal.{Refusal}
 use Rattle.opus_defines.specs.declared.Refusal.TheVariants.{BadArg}
-use Rattle.opus_defines.specs.declared.Verdict.TheVariants.{Refused}
+use Rattle.std.specs.Prelude.{Err}
 use Rattle.opus_defines.proofs.Outcomes.{rule_report}
 use Rattle.opus_toc.specs.Toc.{upper_six}
 use Rattle.opus_format.specs.Frames.{cut}
@@ -81,17 +81,17 @@ module _ (s : List ℕ) (len : ℕ) where
     unfolding unpad_packet
     unpad_read = rw (l.means, l.frames)
 
-  module _ (r : Packet) (p : r ≡ parsed false (take len s)) (e : Refusal) (v : r.verdict ≡ Refused e) (short : len ≤ 65535) where
+  module _ (e : Refusal) (p : Err e ≡ parsed false (take len s)) (short : len ≤ 65535) where
     few : length (take len s) ≤ 65535
     few = rw (length-take len s) (omega arith)
 
     pub pad_refused : (new : ℕ) → pad_packet (take len s) new ≡ refusal e
     unfolding pad_packet
-    pad_refused new = let q = parsed_refused false (take len s) r p e v few in rw q.3 (ap refusal (sym q.2))
+    pad_refused new = let q = parsed_refused false (take len s) e p few in rw q.3 (ap refusal (sym q.2))
 
     pub unpad_refused : unpad_packet (take len s) ≡ refusal e
     unfolding unpad_packet
-    unpad_refused = let q = parsed_refused false (take len s) r p e v few in rw q.3 (ap refusal (sym q.2))
+    unpad_refused = let q = parsed_refused false (take len s) e p few in rw q.3 (ap refusal (sym q.2))
 
 -- ---- what pad answers
 pub report_answered : (s : List ℕ) (x : Effect) → report_of (answered x) ≡ (leaves s x).report

@@ -9,7 +9,7 @@ use lib.ListN.{length, take, drop}
 use lib.Seq.{length-take-le}
 use Rattle.laws.specs.Bytes.{Bytes}
 use Rattle.laws.proofs.Bytes.{bytes_take}
-use Rattle.opus_defines.specs.declared.Verdict.TheVariants.{Accepted}
+use Rattle.std.specs.Prelude.{Ok}
 use Rattle.opus_size.specs.Size.{most_bytes}
 use Rattle.opus_toc.specs.Toc.{upper_six}
 use Rattle.opus_format.specs.Frames.{cut, total, longest}
@@ -37,12 +37,12 @@ pub record Lies (sd : Bool) (s : List ℕ) (len : ℕ) (r : Packet) : Type 0 whe
   -- the compact packet is no longer than the one that was read
   pub least : length (compact sd (upper_six r.toc) (cut (lengths_of r) (drop r.first s))) ≤ len
 
-pub lies : (sd : Bool) (s : List ℕ) (len : ℕ) (r : Packet) → Bytes s → len ≤ length s → r ≡ parsed sd (take len s) → r.verdict ≡ Accepted
+pub lies : (sd : Bool) (s : List ℕ) (len : ℕ) (r : Packet) → Bytes s → len ≤ length s → Ok r ≡ parsed sd (take len s)
     → Lies sd s len r
-lies sd s len r bytes h e v =
+lies sd s len r bytes h e =
     let p = take len s in
     let long : length p ≡ len = length-take-le len s h in
-    let d = parsed_accepted sd p r e v in
+    let d = parsed_accepted sd p r e in
     let ns = lengths_of r in
     let f = facts sd p r.toc ns r.first r.taken (bytes_take len s bytes) d.means in
     let w = read_spelled sd p r.toc ns r.first r.taken (bytes_take len s bytes) d.means in

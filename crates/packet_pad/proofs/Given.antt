@@ -20,7 +20,7 @@ use mir.ValLaws.{to_z-of_z}
 use borrow.Author.Tests.{ltb-false, lt-ltb, le-ltb, eq-eqb, ne_eqb, eqb-true, eqb-false}
 use Rattle.laws.proofs.Never.{never, by_test}
 use Rattle.opus_defines.specs.Numbers.{count_of}
-use Rattle.opus_defines.specs.declared.Count.TheVariants.{Is, Negative}
+use Rattle.std.specs.Prelude.{None, Some}
 use Rattle.opus_defines.proofs.Counts.{is_natural}
 use Rattle.packet_pad.specs.Lengths.{length_of, Outside, lengths_by, lengths_of}
 use Rattle.packet_pad.specs.declared.lengths.Lengths.{Lengths}
@@ -30,11 +30,11 @@ use Rattle.packet_pad.specs.declared.lengths.Lengths.TheVariants.{Bad, Same, Mor
 pub length-told : (s : List ℕ) (x : ℤ) → SFits w32 x → {n : ℕ} → n ≡ length_of s (to_z w32 (of_z w32 x)) → length_of s x ≡ n
 length-told s x f e = sym (rw (to_z-of_z w32 x f) at e)
 
-pub length_none : (s : List ℕ) (x : ℤ) → count_of x ≡ Negative → 0 ≡ length_of s x
+pub length_none : (s : List ℕ) (x : ℤ) → count_of x ≡ None → 0 ≡ length_of s x
 length_none s (pos n) e = never (cc)
 length_none s (negsuc n) e = refl
 
-module _ (s : List ℕ) (x : ℤ) (n : ℕ) (e : count_of x ≡ Is n) where
+module _ (s : List ℕ) (x : ℤ) (n : ℕ) (e : count_of x ≡ Some n) where
   pub length_over : length s < n → 0 ≡ length_of s x
   length_over h = rw (is_natural x n e, lt-ltb (length s) n h)
 

@@ -1,9 +1,9 @@
 -- What pad answers, and what it leaves in the buffer (document 01, 'Collecting and writing').
+use Rattle.opus_defines.specs.declared.Refusal.{Refusal}
 use Rattle.std.specs.Prelude.{ℕ, List, false, ℤ, take, drop}
 use Rattle.opus_defines.specs.Rules.{rule_refusal}
 use Rattle.opus_defines.specs.Outcome.{Effect, refusal, wrote, Outcome, leaves}
-use Rattle.opus_defines.specs.declared.Answer.{Answer}
-use Rattle.opus_defines.specs.declared.Answer.TheVariants.{Number, Refused}
+use Rattle.std.specs.Prelude.{Err, Ok, Result}
 use Rattle.opus_toc.specs.Toc.{upper_six}
 use Rattle.opus_format.specs.Frames.{cut}
 use Rattle.opus_format.specs.Reading.{Reading, refused, accepted, read}
@@ -11,9 +11,9 @@ use Rattle.opus_header.specs.Compact.{filling}
 use Rattle.packet_pad.specs.Lengths.{lengths_of, by_lengths}
 
 -- what a call answers, without what it leaves
-abbrev pub answered : Effect → Answer
-answered (refusal e) = Refused e
-answered (wrote n vs) = Number n
+abbrev pub answered : Effect → Result ℕ Refusal
+answered (refusal e) = Err e
+answered (wrote n vs) = Ok n
 
 -- done, and these bytes from the front on
 abbrev pub pads_to : List ℕ → List ℕ → Outcome

@@ -2,8 +2,6 @@
 ghost use Rattle.std.specs.Prelude.{◌≡◌};
 ghost use Rattle.packet_pad.specs.Lengths.{length_of, lengths_of};
 
-use opus_defines::Count;
-
 // What the packet's length and the new one ask for: a refusal, nothing, or a packet of the first length padded to the second.
 #[derive(Clone, Copy)]
 pub enum Lengths {
@@ -16,7 +14,7 @@ pub enum Lengths {
 pub fn length_of(data: &[u8], len: i32) -> usize
     ensures { result ≡ length_of «data».now len }
 {
-    let Count::Is(n) = opus_defines::count_of(len) else {
+    let Some(n) = opus_defines::count_of(len) else {
         return 0;
     };
     if data.len() < n {

@@ -20,7 +20,7 @@ ghost use Rattle.packet_pad.specs.Pad.{answered, pad_packet, padded};
 ghost use Rattle.packet_pad.specs.Unpad.{unpad_packet, unpadded};
 
 use crate::lengths::{Lengths, length_of, lengths_of};
-use opus_defines::{Answer, Refusal, Report, Verdict};
+use opus_defines::{Refusal, Report};
 use opus_header::{Form, Sums};
 
 // A block of n bytes moved either way.
@@ -82,31 +82,25 @@ fn pad_frames(data: &mut [u8], toc: u8, ns: &[u16], first: usize, new_len: usize
 }
 
 // The packet in the first `len` bytes, padded to more.
-pub fn pad_packet(data: &mut [u8], len: usize, new_len: usize) -> Answer
+pub fn pad_packet(data: &mut [u8], len: usize, new_len: usize) -> Result<u16, Refusal>
     requires { (len < new_len) × (new_len ≤ length «data».old) × (new_len ≤ 65535) }
     ensures answer { result ≡ answered (pad_packet (take len «data».old) new_len) }
     ensures bytes { «data».new ≡ (leaves «data».old (pad_packet (take len «data».old) new_len)).bytes }
 {
     let mut lengths = [0u16; 48];
-    let p = opus::read_into(&data[..len], false, &mut lengths);
-    let v = p.verdict;
-    let Verdict::Refused(e) = v else {
-        let n = p.count;
-        let first = p.first;
-        pad_frames(data, p.toc, &lengths[..n], first, new_len);
-        return Answer::Number(opus_defines::OPUS_OK);
-    };
-    Answer::Refused(e)
+    let p = opus::read_into(&data[..len], false, &mut lengths)?;
+    pad_frames(data, p.toc, &lengths[..p.count], p.first, new_len);
+    Ok(opus_defines::OPUS_OK)
 }
 
-fn pad_answer(data: &mut [u8], len: i32, new_len: i32) -> Answer
+fn pad_answer(data: &mut [u8], len: i32, new_len: i32) -> Result<u16, Refusal>
     ensures report { report_of result ≡ (padded «data».old len new_len).report }
     ensures bytes { «data».new ≡ (padded «data».old len new_len).bytes }
 {
     let l = lengths_of(data, len, new_len);
     match l {
-        Lengths::Bad => Answer::Refused(Refusal::BadArg),
-        Lengths::Same => Answer::Number(opus_defines::OPUS_OK),
+        Lengths::Bad => Err(Refusal::BadArg),
+        Lengths::Same => Ok(opus_defines::OPUS_OK),
         Lengths::More(n, m) => pad_packet(data, n, m),
     }
 }
@@ -140,30 +134,24 @@ pub fn compact_frames(
 }
 
 // The packet in the first `len` bytes, without padding and in compact form.
-fn unpad_packet(data: &mut [u8], len: usize) -> Answer
+fn unpad_packet(data: &mut [u8], len: usize) -> Result<u16, Refusal>
     requires { (len ≤ length «data».old) × (len ≤ 65535) }
     ensures report { report_of result ≡ (leaves «data».old (unpad_packet (take len «data».old))).report }
     ensures bytes { «data».new ≡ (leaves «data».old (unpad_packet (take len «data».old))).bytes }
 {
     let mut lengths = [0u16; 48];
-    let p = opus::read_into(&data[..len], false, &mut lengths);
-    let v = p.verdict;
-    let Verdict::Refused(e) = v else {
-        let n = p.count;
-        let first = p.first;
-        let bytes = compact_frames(data, p.toc, &lengths[..n], false, first);
-        return Answer::Number(bytes as u16);
-    };
-    Answer::Refused(e)
+    let p = opus::read_into(&data[..len], false, &mut lengths)?;
+    let bytes = compact_frames(data, p.toc, &lengths[..p.count], false, p.first);
+    Ok(bytes as u16)
 }
 
-fn unpad_answer(data: &mut [u8], len: i32) -> Answer
+fn unpad_answer(data: &mut [u8], len: i32) -> Result<u16, Refusal>
     ensures report { report_of result ≡ (unpadded «data».old len).report }
     ensures bytes { «data».new ≡ (unpadded «data».old len).bytes }
 {
     let n = length_of(data, len);
     if n == 0 {
-        return Answer::Refused(Refusal::BadArg);
+        return Err(Refusal::BadArg);
     }
     unpad_packet(data, n)
 }

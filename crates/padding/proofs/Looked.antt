@@ -16,18 +16,16 @@ use lib.Seq.{take_all}
 use Rattle.laws.specs.Bytes.{Bytes}
 use Rattle.blocks.proofs.Sets.{drop-take}
 use Rattle.opus_defines.specs.declared.Refusal.{Refusal}
-use Rattle.opus_defines.specs.declared.Verdict.TheVariants.{Accepted, Refused}
+use Rattle.std.specs.Prelude.{Err, Ok}
 use Rattle.opus_size.specs.Size.{most_bytes}
 use Rattle.opus_format.specs.Frames.{total, longest}
 use Rattle.opus_format.specs.Dirt.{dirty, dirty_packet}
 use Rattle.opus_format.proofs.Lengths.{longest_more}
 use Rattle.opus_format.proofs.Facts.{facts}
 use Rattle.opus_format.proofs.Dirt.{dirty_most, dirt_is}
-use Rattle.opus.specs.Answers.{parsed, answer_of}
+use Rattle.opus.specs.Answers.{parsed}
 use Rattle.opus.specs.declared.Packet.{Packet}
-use Rattle.opus.specs.declared.PacketHead.{PacketHead}
 use Rattle.opus.proofs.Parsed.{lengths_of, parsed_accepted, parsed_refused}
-use Rattle.opus.proofs.Lent.{packet_with, lent_accepted}
 use Rattle.opus_header.specs.Sums.{sums_of}
 use Rattle.opus_header.specs.declared.Sums.{Sums}
 use Rattle.opus_header.proofs.Forms.{sums_total}
@@ -55,11 +53,10 @@ pub record Framed (sd : Bool) (p : List ℕ) (q : Packet) : Type 0 where
   pub padding : dirty_packet sd p
       ≡ dirty (take (q.taken - (q.first + total (lengths_of q))) (drop (q.first + total (lengths_of q)) p))
 
-module _ (sd : Bool) (p : List ℕ) (h : PacketHead) (l : List ℕ) (e : answer_of h l ≡ parsed sd p) where
-  pub framed : Bytes p → h.verdict ≡ Accepted → Framed sd p (packet_with h l)
-  framed bytes v =
-      let q = packet_with h l in
-      let d = parsed_accepted sd p q (lent_accepted sd p h l e v) v in
+module _ (sd : Bool) (p : List ℕ) where
+  pub framed : (q : Packet) → Ok q ≡ parsed sd p → Bytes p → Framed sd p q
+  framed q e bytes =
+      let d = parsed_accepted sd p q e in
       let f = facts sd p q.toc (lengths_of q) q.first q.taken bytes d.means in
       record {
         inside = d.inside;
@@ -69,8 +66,8 @@ module _ (sd : Bool) (p : List ℕ) (h : PacketHead) (l : List ℕ) (e : answer_
         padding = rw (dirt_is sd p, d.means) (ap dirty (drop-take (q.first + total (lengths_of q)) q.taken p));
       }
 
-  pub dirt_refused : length p ≤ 65535 → {c : Refusal} → h.verdict ≡ Refused c → false ≡ dirty_packet sd p
-  dirt_refused k {c} v = let r = parsed_refused sd p (answer_of h l) e c v k in rw (dirt_is sd p, r.3)
+  pub dirt_refused : {c : Refusal} → Err c ≡ parsed sd p → length p ≤ 65535 → false ≡ dirty_packet sd p
+  dirt_refused {c} e k = let r = parsed_refused sd p c e k in rw (dirt_is sd p, r.3)
 
 pub dirt_most : (s : List ℕ) (most : ℕ) → most ≡ longest s → not (eqb most 0) ≡ dirty s
 dirt_most s most e = rw e (sym (dirty_most s))

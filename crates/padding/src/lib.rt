@@ -6,26 +6,16 @@ ghost use Rattle.opus_format.specs.Frames.{longest};
 ghost use Rattle.opus_format.specs.Dirt.{dirty, dirty_packet};
 ghost use Rattle.padding.specs.Asked.{asks_padding};
 
-use opus_defines::Verdict;
-
 // The most bytes that are looked at by words of eight: of more, the largest byte is found sooner.
 const MOST_WORDS: usize = 128;
-
-fn larger(a: u8, b: u8) -> u8
-    ensures { result ≡ max a b }
-{
-    if a < b { b } else { a }
-}
 
 // The largest byte. No test leaves the loop, so that sixteen bytes or more are taken at a time.
 fn largest(s: &[u8]) -> u8
     ensures { result ≡ longest s.now }
 {
     let mut most: u8 = 0;
-    let mut i: usize = 0;
-    while i < s.len() {
-        most = larger(most, s[i]);
-        i += 1;
+    for &b in s {
+        most = most.max(b);
     }
     most
 }
@@ -43,10 +33,8 @@ fn dirt_in_word(s: &[u8]) -> bool
     ensures { result ≡ dirty s.now }
 {
     let mut dirt = false;
-    let mut i: usize = 0;
-    while i < 8 {
-        dirt = dirt_or(dirt, s[i]);
-        i += 1;
+    for &b in s {
+        dirt = dirt_or(dirt, b);
     }
     dirt
 }
@@ -102,16 +90,12 @@ fn read_dirty(data: &[u8], self_delimited: bool) -> bool
     ensures { result ≡ dirty_packet self_delimited «data».now }
 {
     let mut lengths = [0u16; 48];
-    let p = opus::read_into(data, self_delimited, &mut lengths);
-    let v = p.verdict;
-    let Verdict::Accepted = v else {
+    let Ok(p) = opus::read_into(data, self_delimited, &mut lengths) else {
         return false;
     };
-    let n = p.count;
-    let m = opus_header::sums_of(&lengths[..n]);
+    let m = opus_header::sums_of(&lengths[..p.count]);
     let from = p.first + m.total;
-    let end = p.taken;
-    dirt_in(&data[from..end])
+    dirt_in(&data[from..p.taken])
 }
 
 // The same, of any packet of at most 65,535 bytes: false where it cannot be read.

@@ -22,7 +22,7 @@ use Rattle.laws.proofs.Never.{never, by_test}
 use Rattle.laws.proofs.Every.{both_right}
 use Rattle.opus_defines.specs.declared.Refusal.{Refusal}
 use Rattle.opus_defines.specs.declared.Refusal.TheVariants.{BadArg, InvalidPacket, InvalidState}
-use Rattle.opus_defines.specs.declared.Verdict.TheVariants.{Accepted, Refused}
+use Rattle.std.specs.Prelude.{Err, Ok}
 use Rattle.opus_size.specs.Size.{most_bytes}
 use Rattle.opus_toc.specs.declared.Samples8k.{Samples8k}
 use Rattle.opus_toc.specs.Toc.{code, upper_six, configuration, samples}
@@ -93,15 +93,15 @@ module _ (rp : OpusRepacketizer) (toc : ℕ) (ns : List ℕ) (s : framed rp ≡ 
 
 -- ---- what an add answers beside the lengths
 module _ (h : Head) (count : ℕ) (e : count ≡ h.nb_frames) where
-  pub refused_head_lem : (c : Refusal) → record { verdict = Refused c; toc = h.toc; framesize = h.framesize; count = count } ≡ refused_head c h
+  pub refused_head_lem : (c : Refusal) → record { verdict = Err c; toc = h.toc; framesize = h.framesize; count = count } ≡ refused_head c h
   refused_head_lem c = rw e
 
   module _ (toc n : ℕ) where
     pub more_first : count ≡ 0 → (each : Samples8k) → each.0 ≡ samples 8000 (configuration toc)
-        → record { verdict = Accepted; toc = toc; framesize = each; count = n } ≡ more_frames h toc n
+        → record { verdict = Ok tt; toc = toc; framesize = each; count = n } ≡ more_frames h toc n
     more_first z each s = rw (eq-eqb h.nb_frames 0 (sym e ∙ z), ← s, ← e, z, zero-add)
 
-    pub more_later : (count ≡ 0 → ⊥) → record { verdict = Accepted; toc = h.toc; framesize = h.framesize; count = count + n } ≡ more_frames h toc n
+    pub more_later : (count ≡ 0 → ⊥) → record { verdict = Ok tt; toc = h.toc; framesize = h.framesize; count = count + n } ≡ more_frames h toc n
     more_later z = rw (ne_eqb h.nb_frames 0 (λ y. z (e ∙ y)), e)
 
 -- a refused add, as the code hands it back
@@ -331,7 +331,7 @@ took_goes {sd} {rp} {p} {toc} {ns} {first} bytes t =
     (λ g. never (let f = rw g at (sym t.stays ∙ stays_read sd rp p toc ns first t.end bytes t.reads) in cc))
 
 -- a refused add changes nothing
-pub refused_keeps : (rp : OpusRepacketizer) (p store : List ℕ) (x : Addition) {e : Refusal} → (leaves_add rp p store x).answer.verdict ≡ Refused e
+pub refused_keeps : (rp : OpusRepacketizer) (p store : List ℕ) (x : Addition) {e : Refusal} → (leaves_add rp p store x).answer.verdict ≡ Err e
     → ((leaves_add rp p store x).answer.rp ≡ rp) × ((leaves_add rp p store x).store ≡ store)
 refused_keeps rp p store (refusal e) v = (refl, refl)
 refused_keeps rp p store (takes toc ns first) v = never (cc)

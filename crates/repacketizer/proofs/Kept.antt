@@ -13,7 +13,7 @@ use lib.ListN.{length, get_or, set}
 use lib.Seq.{sets, get_or-set_other}
 use borrow.Author.Tests.{eq-eqb, ne_eqb}
 use Rattle.laws.proofs.Never.{never}
-use Rattle.opus_defines.specs.declared.Verdict.TheVariants.{Accepted}
+use Rattle.std.specs.Prelude.{Ok}
 use Rattle.opus_toc.specs.Toc.{configuration, samples}
 use Rattle.opus_format.specs.Reading.{accepted, read}
 use Rattle.blocks.specs.Blocks.{part, copied}
@@ -25,11 +25,11 @@ use Rattle.repacketizer.proofs.Adds.{taken, took}
 -- ---- an accepted add
 pub add_took : (sd : Bool) (rp : OpusRepacketizer) (p store : List ℕ) (toc : ℕ) (ns : List ℕ) (first end : ℕ)
     → read sd p ≡ accepted toc ns first end
-    → (added sd rp p store).answer.verdict ≡ Accepted → added sd rp p store ≡ taken rp toc ns p first store
+    → (added sd rp p store).answer.verdict ≡ Ok tt → added sd rp p store ≡ taken rp toc ns p first store
 unfolding added
 add_took sd rp p store toc ns first end r v = go (adds sd rp p (length store)) refl v
   where
-    go : (x : Addition) → adds sd rp p (length store) ≡ x → (leaves_add rp p store x).answer.verdict ≡ Accepted
+    go : (x : Addition) → adds sd rp p (length store) ≡ x → (leaves_add rp p store x).answer.verdict ≡ Ok tt
         → leaves_add rp p store x ≡ taken rp toc ns p first store
     go (refusal e) h v = never (cc)
     go (takes toc' ns' first') h v =

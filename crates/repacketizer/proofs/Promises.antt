@@ -13,8 +13,8 @@ use Rattle.laws.specs.Bytes.{Bytes}
 use Rattle.laws.proofs.Never.{never, by_test}
 use Rattle.opus_defines.specs.Numbers.{plain, verdict_report}
 use Rattle.opus_defines.specs.declared.Rule.{Rule}
-use Rattle.opus_defines.specs.declared.Verdict.{Verdict}
-use Rattle.opus_defines.specs.declared.Verdict.TheVariants.{Accepted, Refused}
+use Rattle.opus_defines.specs.declared.Refusal.{Refusal}
+use Rattle.std.specs.Prelude.{Err, Ok, Result}
 use Rattle.opus_defines.proofs.Outcomes.{rule_number_lem}
 use Rattle.opus_toc.specs.Toc.{upper_six, configuration, samples, time}
 use Rattle.opus_toc.proofs.Samples.{lasts_at_lem}
@@ -46,7 +46,7 @@ six_bits_are_kept s l b = runs_six s l b
 
 -- 2. An empty collector takes any packet that the reader accepts.
 pub empty_takes_all : (sd : Bool) (rp : OpusRepacketizer) (store p : List ℕ) (toc : ℕ) (ns : List ℕ) (first taken : ℕ) → rp.nb_frames ≡ 0
-    → 61200 ≤ length store → length p ≤ 65535 → read sd p ≡ accepted toc ns first taken → (added sd rp p store).answer.verdict ≡ Accepted
+    → 61200 ≤ length store → length p ≤ 65535 → read sd p ≡ accepted toc ns first taken → (added sd rp p store).answer.verdict ≡ Ok tt
 empty_takes_all sd rp store p toc ns first taken e h k r = rw (add-empty sd rp p store toc ns first taken e h k r)
 
 -- and then holds frames that last as long as the packet,
@@ -65,10 +65,10 @@ pub refused_add_changes_nothing : (sd : Bool) (rp : OpusRepacketizer) (p store :
 unfolding added
 refused_add_changes_nothing sd rp p store n r = go (added sd rp p store).answer.verdict refl r
   where
-    go : (v : Verdict) → (added sd rp p store).answer.verdict ≡ v → (verdict_report 0 v).number ≡ negsuc n
+    go : (v : Result (Unit {0}) Refusal) → (added sd rp p store).answer.verdict ≡ v → (verdict_report 0 v).number ≡ negsuc n
         → ((added sd rp p store).answer.rp ≡ rp) × ((added sd rp p store).store ≡ store)
-    go Accepted e r = never (cc)
-    go (Refused c) e r = refused_keeps rp p store (adds sd rp p (length store)) e
+    go (Ok tt) e r = never (cc)
+    go (Err c) e r = refused_keeps rp p store (adds sd rp p (length store)) e
 
 -- 8. The order of an add's refusals: each fault gives its number, whatever else is wrong behind it.
 module _ (sd : Bool) (rp : OpusRepacketizer) (p store : List ℕ) where
@@ -108,7 +108,7 @@ module _ (sd : Bool) (rp : OpusRepacketizer) (p store : List ℕ) where
 -- 9. What an accepted add does beside its frames: it counts them; the first packet sets the TOC byte and the frame size, at 8 kHz, and later ones
 -- keep both; no length but those of its frames changes, and no byte of the store but those that it copies.
 module _ (sd : Bool) (rp : OpusRepacketizer) (p store : List ℕ) (toc : ℕ) (ns : List ℕ) (first end : ℕ) (r : read sd p ≡ accepted toc ns first end)
-    (v : (added sd rp p store).answer.verdict ≡ Accepted) where
+    (v : (added sd rp p store).answer.verdict ≡ Ok tt) where
   pub add_counts : (added sd rp p store).answer.rp.nb_frames ≡ rp.nb_frames + length ns
   add_counts = rw (add_took sd rp p store toc ns first end r v)
 

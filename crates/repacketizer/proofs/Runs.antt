@@ -6,8 +6,8 @@ use mathlib.Core.Path.{◌≡◌, refl, sym, ap, ◌∙◌}
 use mathlib.Core.List.{List, [], ◌∷◌, ◌++◌, append_assoc, append-nil}
 use lib.ListN.{length, get_or, replicate}
 use Rattle.laws.specs.Bytes.{Bytes}
-use Rattle.opus_defines.specs.declared.Verdict.{Verdict}
-use Rattle.opus_defines.specs.declared.Verdict.TheVariants.{Accepted, Refused}
+use Rattle.opus_defines.specs.declared.Refusal.{Refusal}
+use Rattle.std.specs.Prelude.{Err, Ok, Result}
 use Rattle.opus_toc.specs.Toc.{upper_six}
 use Rattle.opus_format.specs.Reading.{accepted, read}
 use Rattle.collector.specs.Collector.{held, held_numbers}
@@ -57,13 +57,13 @@ runs_numbers s (a ∷ more) r b =
   where
     go : held_numbers (after_adds (after_add s a) more).rp
         ≡ held_numbers (after_add s a).rp ++ blocks (next (after_add s a).rp) (accepted_of (after_add s a) more)
-        → (v : Verdict) → (adding s a).answer.verdict ≡ v
+        → (v : Result (Unit {0}) Refusal) → (adding s a).answer.verdict ≡ v
         → held_numbers (after_adds (after_add s a) more).rp ≡ held_numbers s.rp ++ blocks (next s.rp) (accepted_if v a ++ accepted_of (after_add s a) more)
-    go rest Accepted e =
+    go rest (Ok tt) e =
         let k = (add_numbers s a r b.0).is e in
         let block = replicate (length (frames_in a)) (next s.rp) in
         rest ∙ rw (k.0, k.1) (append_assoc (held_numbers s.rp) block (blocks (next s.rp + 1) (accepted_of (after_add s a) more)))
-    go rest (Refused e) q =
+    go rest (Err e) q =
         let same = (add_numbers s a r b.0).stays q in
         rest ∙ ap (λ (rp : OpusRepacketizer). held_numbers rp ++ blocks (next rp) (accepted_of (after_add s a) more)) same
 
@@ -73,10 +73,10 @@ accepted_frames s [] = refl
 accepted_frames s (a ∷ more) = go (accepted_frames (after_add s a) more) (adding s a).answer.verdict
   where
     go : frames_accepted (after_add s a) more ≡ frames_of_all (accepted_of (after_add s a) more)
-        → (v : Verdict) → frames_if v (frames_in a) ++ frames_accepted (after_add s a) more ≡ frames_of_all
+        → (v : Result (Unit {0}) Refusal) → frames_if v (frames_in a) ++ frames_accepted (after_add s a) more ≡ frames_of_all
         (accepted_if v a ++ accepted_of (after_add s a) more)
-    go rest Accepted = rw rest
-    go rest (Refused e) = rest
+    go rest (Ok tt) = rw rest
+    go rest (Err e) = rest
 
 -- what is known of an accepted packet: it was read, and has the upper six TOC bits of all
 pub record Came (six : ℕ) (a : Arrival) : Type 0 where
@@ -97,9 +97,9 @@ pub accepted_came : (six : ℕ) (s : State) (l : List Arrival) → AllBytes l �
 accepted_came six s [] b k = tt
 accepted_came six s (a ∷ more) b k = go (accepted_came six (after_add s a) more b.1 k.1) (adding s a).answer.verdict refl
   where
-    go : AllCame six (accepted_of (after_add s a) more) → (v : Verdict) → (adding s a).answer.verdict ≡ v
+    go : AllCame six (accepted_of (after_add s a) more) → (v : Result (Unit {0}) Refusal) → (adding s a).answer.verdict ≡ v
         → AllCame six (accepted_if v a ++ accepted_of (after_add s a) more)
-    go rest Accepted e =
+    go rest (Ok tt) e =
         let t = add_read s a e in (
           record {
             toc = t.toc;
@@ -113,4 +113,4 @@ accepted_came six s (a ∷ more) b k = go (accepted_came six (after_add s a) mor
           },
           rest,
         )
-    go rest (Refused e) q = rest
+    go rest (Err e) q = rest

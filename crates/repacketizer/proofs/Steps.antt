@@ -20,7 +20,7 @@ use Rattle.laws.proofs.Never.{never, by_test, cond_elim}
 use Rattle.laws.proofs.Every.{both_left}
 use Rattle.laws.proofs.Bytes.{bytes_take, bytes_drop, bytes_sets}
 use Rattle.opus_defines.specs.declared.Refusal.{Refusal}
-use Rattle.opus_defines.specs.declared.Verdict.TheVariants.{Accepted, Refused}
+use Rattle.std.specs.Prelude.{Err, Ok}
 use Rattle.opus_size.specs.Size.{most_bytes}
 use Rattle.opus_format.specs.Frames.{total, longest}
 use Rattle.opus_format.specs.Reading.{accepted, read, frames_of}
@@ -149,7 +149,7 @@ add_bytes s a k b = subst (λ y. Bytes y.store) (sym (adding_is s a)) (go (addit
 
 -- ---- the upper six TOC bits: an accepted packet's are those held behind it; those of a collector that holds frames stay
 pub record Six (s : State) (a : Arrival) (x : Adding) : Type 0 where
-  pub is : x.answer.verdict ≡ Accepted → (upper_six (get_or a.packet 0 0) ≡ upper_six x.answer.rp.toc) × (1 ≤ x.answer.rp.nb_frames)
+  pub is : x.answer.verdict ≡ Ok tt → (upper_six (get_or a.packet 0 0) ≡ upper_six x.answer.rp.toc) × (1 ≤ x.answer.rp.nb_frames)
   pub stays : 1 ≤ s.rp.nb_frames → (upper_six x.answer.rp.toc ≡ upper_six s.rp.toc) × (1 ≤ x.answer.rp.nb_frames)
 
 same_six : (rp : OpusRepacketizer) (toc n : ℕ) → (rp.nb_frames ≡ 0 → ⊥) → goes_with rp toc n ≡ true → upper_six toc ≡ upper_six rp.toc
@@ -180,10 +180,10 @@ pub record Reads (s : State) (a : Arrival) : Type 0 where
   pub first : ℕ
   pub taken : Took a.sd s.rp a.packet toc ns first
 
-pub add_read : (s : State) (a : Arrival) → (adding s a).answer.verdict ≡ Accepted → Reads s a
+pub add_read : (s : State) (a : Arrival) → (adding s a).answer.verdict ≡ Ok tt → Reads s a
 add_read s a v = go (addition_of s a) refl (rw (← adding_is s a) v)
   where
-    go : (x : Addition) → addition_of s a ≡ x → (leaves_add s.rp a.packet s.store x).answer.verdict ≡ Accepted → Reads s a
+    go : (x : Addition) → addition_of s a ≡ x → (leaves_add s.rp a.packet s.store x).answer.verdict ≡ Ok tt → Reads s a
     go (refusal e) h v = never (cc)
     go (takes toc ns first) h v =
         record { toc = toc; ns = ns; first = first; taken = took_by a.strict a.sd s.rp a.packet (length s.store) toc ns first h }
@@ -193,9 +193,9 @@ abbrev pub next : OpusRepacketizer → ℕ
 next rp = number_after rp.packet rp.nb_frames
 
 pub record Numbers (s : State) (a : Arrival) (x : Adding) : Type 0 where
-  pub is : x.answer.verdict ≡ Accepted
+  pub is : x.answer.verdict ≡ Ok tt
       → (held_numbers x.answer.rp ≡ held_numbers s.rp ++ replicate (length (frames_in a)) (next s.rp)) × (next x.answer.rp ≡ next s.rp + 1)
-  pub stays : {e : Refusal} → x.answer.verdict ≡ Refused e → x.answer.rp ≡ s.rp
+  pub stays : {e : Refusal} → x.answer.verdict ≡ Err e → x.answer.rp ≡ s.rp
 
 pub add_numbers : (s : State) (a : Arrival) → Ready s → Bytes a.packet → Numbers s a (adding s a)
 add_numbers s a r b = subst (Numbers s a) (sym (adding_is s a)) (go (addition_of s a) refl)

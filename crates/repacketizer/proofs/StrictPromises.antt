@@ -9,8 +9,7 @@ use lib.ListN.{length}
 use Rattle.laws.proofs.Never.{never, by_test}
 use Rattle.opus_defines.specs.Numbers.{plain, verdict_report}
 use Rattle.opus_defines.specs.declared.Refusal.{Refusal}
-use Rattle.opus_defines.specs.declared.Verdict.{Verdict}
-use Rattle.opus_defines.specs.declared.Verdict.TheVariants.{Accepted, Refused}
+use Rattle.std.specs.Prelude.{Err, Ok, Result}
 use Rattle.opus_format.specs.Dirt.{dirty_packet}
 use Rattle.opus.specs.Named.{Named, unnamed}
 use Rattle.collector.specs.declared.OpusRepacketizer.{OpusRepacketizer}
@@ -25,25 +24,25 @@ module _ (sd : Bool) (rp : OpusRepacketizer) (p store : List ℕ) where
   strict_is_ordinary_where_clean c = strict_clean sd rp p store c
 
   -- and where the ordinary one refuses.
-  pub strict_is_ordinary_where_refused : (e : Refusal) → (added sd rp p store).answer.verdict ≡ Refused e → added_strictly sd rp p store
+  pub strict_is_ordinary_where_refused : (e : Refusal) → (added sd rp p store).answer.verdict ≡ Err e → added_strictly sd rp p store
       ≡ added sd rp p store
   unfolding added added_strictly
   strict_is_ordinary_where_refused e v = go (adds sd rp p (length store)) refl v
     where
-      go : (x : Addition) → adds sd rp p (length store) ≡ x → (leaves_add rp p store x).answer.verdict ≡ Refused e
+      go : (x : Addition) → adds sd rp p (length store) ≡ x → (leaves_add rp p store x).answer.verdict ≡ Err e
           → added_strictly sd rp p store ≡ added sd rp p store
       go (refusal e) h v = rw h
       go (takes toc ns first) h v = never (cc)
 
   -- 2. Where the ordinary one accepts a packet whose padding is dirty, it is refused by -20, with no rule and no place; collector and store are as
   -- they were.
-  pub dirty_is_refused : dirty_packet sd p ≡ true → (added sd rp p store).answer.verdict ≡ Accepted
+  pub dirty_is_refused : dirty_packet sd p ≡ true → (added sd rp p store).answer.verdict ≡ Ok tt
       → (added_report (added_strictly sd rp p store).answer ≡ plain (negsuc 19))
       × ((added_strictly sd rp p store).answer.rp ≡ rp) × ((added_strictly sd rp p store).store ≡ store)
   unfolding added added_strictly
   dirty_is_refused d v = go (adds sd rp p (length store)) refl v
     where
-      go : (x : Addition) → adds sd rp p (length store) ≡ x → (leaves_add rp p store x).answer.verdict ≡ Accepted
+      go : (x : Addition) → adds sd rp p (length store) ≡ x → (leaves_add rp p store x).answer.verdict ≡ Ok tt
           → (added_report (added_strictly sd rp p store).answer ≡ plain (negsuc 19))
           × ((added_strictly sd rp p store).answer.rp ≡ rp) × ((added_strictly sd rp p store).store ≡ store)
       go (refusal e) h v = never (cc)
@@ -54,14 +53,14 @@ module _ (sd : Bool) (rp : OpusRepacketizer) (p store : List ℕ) where
   ordinary_takes_dirt n = never_dirty sd rp p store n
 
   pub refused_for_dirt_alone : added_number (added_strictly sd rp p store).answer ≡ negsuc 19
-      → (dirty_packet sd p ≡ true) × ((added sd rp p store).answer.verdict ≡ Accepted)
+      → (dirty_packet sd p ≡ true) × ((added sd rp p store).answer.verdict ≡ Ok tt)
   refused_for_dirt_alone n =
       by_test (dirty_packet sd p) (λ d. (d, accepts (added sd rp p store).answer.verdict refl))
       (λ c. absurd (ordinary_takes_dirt (rw (strict_clean sd rp p store c) at n)))
     where
-      accepts : (v : Verdict) → (added sd rp p store).answer.verdict ≡ v → (added sd rp p store).answer.verdict ≡ Accepted
-      accepts Accepted e = e
-      accepts (Refused x) e = absurd (ordinary_takes_dirt (rw (strict_is_ordinary_where_refused x e) at n))
+      accepts : (v : Result (Unit {0}) Refusal) → (added sd rp p store).answer.verdict ≡ v → (added sd rp p store).answer.verdict ≡ Ok tt
+      accepts (Ok tt) e = e
+      accepts (Err x) e = absurd (ordinary_takes_dirt (rw (strict_is_ordinary_where_refused x e) at n))
 
   -- 4. A refused strict add changes nothing.
   pub refused_strict_add_changes_nothing : (n : ℕ) → added_number (added_strictly sd rp p store).answer ≡ negsuc n
@@ -69,10 +68,10 @@ module _ (sd : Bool) (rp : OpusRepacketizer) (p store : List ℕ) where
   unfolding added_strictly
   refused_strict_add_changes_nothing n r = go (added_strictly sd rp p store).answer.verdict refl r
     where
-      go : (v : Verdict) → (added_strictly sd rp p store).answer.verdict ≡ v → (verdict_report 0 v).number ≡ negsuc n
+      go : (v : Result (Unit {0}) Refusal) → (added_strictly sd rp p store).answer.verdict ≡ v → (verdict_report 0 v).number ≡ negsuc n
           → ((added_strictly sd rp p store).answer.rp ≡ rp) × ((added_strictly sd rp p store).store ≡ store)
-      go Accepted e r = never (cc)
-      go (Refused x) e r = refused_keeps rp p store (adds_by true sd rp p (length store)) e
+      go (Ok tt) e r = never (cc)
+      go (Err x) e r = refused_keeps rp p store (adds_by true sd rp p (length store)) e
 
   -- 5. Rule and place are those of the reader, and 0 in every other answer, -20 among them.
   pub strict_add_names : Named p (added_report (added_strictly sd rp p store).answer)
@@ -80,10 +79,10 @@ module _ (sd : Bool) (rp : OpusRepacketizer) (p store : List ℕ) where
       by_test (dirty_packet sd p) (λ d. names d (added sd rp p store).answer.verdict refl)
       (λ c. rw (strict_clean sd rp p store c) (add_named sd rp p store))
     where
-      names : dirty_packet sd p ≡ true → (v : Verdict) → (added sd rp p store).answer.verdict ≡ v
+      names : dirty_packet sd p ≡ true → (v : Result (Unit {0}) Refusal) → (added sd rp p store).answer.verdict ≡ v
           → Named p (added_report (added_strictly sd rp p store).answer)
-      names d Accepted e = let r = (dirty_is_refused d e).0 in unnamed (ap (λ x. x.rule) r) (ap (λ x. x.place) r)
-      names d (Refused x) e = rw (strict_is_ordinary_where_refused x e) (add_named sd rp p store)
+      names d (Ok tt) e = let r = (dirty_is_refused d e).0 in unnamed (ap (λ x. x.rule) r) (ap (λ x. x.place) r)
+      names d (Err x) e = rw (strict_is_ordinary_where_refused x e) (add_named sd rp p store)
 
   -- 6. From a collector that holds nothing, -20 is answered exactly where the padding is dirty.
   pub dirt_is_refused_from_empty : rp.nb_frames ≡ 0 → 61200 ≤ length store → length p ≤ 65535 → dirty_packet sd p ≡ true

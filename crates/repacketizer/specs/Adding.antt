@@ -8,9 +8,7 @@ use Rattle.opus_defines.specs.declared.Report.{Report}
 use Rattle.opus_defines.specs.Rules.{rule_refusal}
 use Rattle.opus_defines.specs.declared.Refusal.{Refusal}
 use Rattle.opus_defines.specs.declared.Refusal.TheVariants.{BadArg, InvalidPacket, InvalidState, DirtyPadding}
-use Rattle.opus_defines.specs.declared.Verdict.TheVariants.{Accepted, Refused}
-use Rattle.opus_defines.specs.declared.Answer.{Answer}
-use Rattle.opus_defines.specs.declared.Answer.TheVariants.{Number, Refused as Said}
+use Rattle.std.specs.Prelude.{Err, Ok, Result}
 use Rattle.opus_toc.specs.Toc.{upper_six, configuration, samples}
 use Rattle.opus_toc.specs.Answers.{nb_frames}
 use Rattle.opus_format.specs.Frames.{total}
@@ -36,7 +34,7 @@ added_number r = (added_report r).number
 
 -- a refusal hands the collector back as it was, and leaves every byte of the store
 abbrev pub refused_add : Refusal → OpusRepacketizer → Added
-refused_add e rp = record { verdict = Refused e; rp = rp }
+refused_add e rp = record { verdict = Err e; rp = rp }
 
 abbrev pub no_add : Refusal → OpusRepacketizer → List ℕ → Adding
 no_add e rp store = record { answer = refused_add e rp; store = store }
@@ -69,7 +67,7 @@ abbrev pub leaves_add : OpusRepacketizer → List ℕ → List ℕ → Addition 
 leaves_add rp p store (refusal e) = no_add e rp store
 leaves_add rp p store (takes toc ns first) =
     record {
-      answer = record { verdict = Accepted; rp = with_frames rp toc ns };
+      answer = record { verdict = Ok tt; rp = with_frames rp toc ns };
       store = copied store (total (held_lengths rp)) p first (total ns);
     }
 
@@ -80,9 +78,9 @@ apart rp toc n =
     cond (goes_with rp toc n) false (cond (eqb (upper_six toc) (upper_six rp.toc)) (lasts (upper_six toc) n) true)
 
 -- the frames that were said, 0 where the count byte is missing
-abbrev pub said_frames : Answer → ℕ
-said_frames (Number n) = n
-said_frames (Said e) = 0
+abbrev pub said_frames : Result ℕ Refusal → ℕ
+said_frames (Ok n) = n
+said_frames (Err e) = 0
 
 -- an empty packet says nothing
 unfoldable pub stays_out : OpusRepacketizer → List ℕ → Bool

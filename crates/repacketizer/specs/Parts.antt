@@ -3,7 +3,7 @@ use Rattle.std.specs.Prelude.{ℕ, ◌+◌, ◌≤◌, ◌<◌, ◌≡◌, List,
 use Rattle.opus_defines.specs.Bounds.{most_packet}
 use Rattle.opus_defines.specs.declared.Refusal.{Refusal}
 use Rattle.opus_defines.specs.declared.Refusal.TheVariants.{InvalidPacket, DirtyPadding}
-use Rattle.opus_defines.specs.declared.Verdict.TheVariants.{Accepted, Refused}
+use Rattle.std.specs.Prelude.{Err, Ok}
 use Rattle.opus_toc.specs.Toc.{configuration, samples}
 use Rattle.opus_format.specs.Frames.{total}
 use Rattle.opus_format.specs.Dirt.{dirty_packet}
@@ -24,13 +24,13 @@ pub record ReadyAt (h : Head) (len packet : List ℕ) (at : ℕ) (store : List �
   pub roomy : least_store ≤ length store
 
 abbrev pub refused_head : Refusal → Head → AddedHead
-refused_head e h = record { verdict = Refused e; toc = h.toc; framesize = h.framesize; count = h.nb_frames }
+refused_head e h = record { verdict = Err e; toc = h.toc; framesize = h.framesize; count = h.nb_frames }
 
 -- n frames more; the first packet sets the TOC byte
 abbrev pub more_frames : Head → ℕ → ℕ → AddedHead
 more_frames h toc n =
     record {
-      verdict = Accepted;
+      verdict = Ok tt;
       toc = cond (eqb h.nb_frames 0) toc h.toc;
       framesize = cond (eqb h.nb_frames 0) (record { 0 = samples 8000 (configuration toc) }) h.framesize;
       count = h.nb_frames + n;

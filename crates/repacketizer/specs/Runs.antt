@@ -1,8 +1,8 @@
 -- Sequences of adds, refused ones included, as demand 3 speaks of them.
+use Rattle.opus_defines.specs.declared.Refusal.{Refusal}
 use Rattle.std.specs.Prelude.{ℕ, ◌+◌, ◌≤◌, ◌<◌, ◌≡◌, List, [], ◌∷◌, ◌++◌, Bool, true, length, get_or, replicate}
 use Rattle.laws.specs.Bytes.{Bytes}
-use Rattle.opus_defines.specs.declared.Verdict.{Verdict}
-use Rattle.opus_defines.specs.declared.Verdict.TheVariants.{Accepted, Refused}
+use Rattle.std.specs.Prelude.{Err, Ok, Result}
 use Rattle.opus_toc.specs.Toc.{upper_six}
 use Rattle.opus_format.specs.Reading.{read, frames_of}
 use Rattle.collector.specs.declared.OpusRepacketizer.{OpusRepacketizer}
@@ -60,9 +60,9 @@ after_adds s [] = s
 after_adds s (a ∷ more) = after_adds (after_add s a) more
 
 -- F: the frames of the accepted packets, in order
-abbrev pub frames_if : Verdict → List (List ℕ) → List (List ℕ)
-frames_if Accepted frames = frames
-frames_if (Refused e) frames = []
+abbrev pub frames_if : Result (Unit {0}) Refusal → List (List ℕ) → List (List ℕ)
+frames_if (Ok tt) frames = frames
+frames_if (Err e) frames = []
 
 -- the frames of a packet
 abbrev pub frames_in : Arrival → List (List ℕ)
@@ -77,9 +77,9 @@ frames_accepted s (a ∷ more) = frames_added s a ++ frames_accepted (after_add 
 
 -- ---- who brought a frame (document 02, M-107)
 -- the accepted packets, in order
-abbrev pub accepted_if : Verdict → Arrival → List Arrival
-accepted_if Accepted a = a ∷ []
-accepted_if (Refused e) a = []
+abbrev pub accepted_if : Result (Unit {0}) Refusal → Arrival → List Arrival
+accepted_if (Ok tt) a = a ∷ []
+accepted_if (Err e) a = []
 
 abbrev pub accepted_of : State → List Arrival → List Arrival
 accepted_of s [] = []
@@ -98,11 +98,11 @@ frames_of_all (a ∷ more) = frames_in a ++ frames_of_all more
 -- every add is accepted
 abbrev pub AllAccepted : State → List Arrival → Type 0
 AllAccepted s [] = Unit {0}
-AllAccepted s (a ∷ more) = ((adding s a).answer.verdict ≡ Accepted) × AllAccepted (after_add s a) more
+AllAccepted s (a ∷ more) = ((adding s a).answer.verdict ≡ Ok tt) × AllAccepted (after_add s a) more
 
 -- every accepted packet has these upper six TOC bits
 abbrev pub SameSix : ℕ → State → List Arrival → Type 0
 SameSix six s [] = Unit {0}
 SameSix six s (a ∷ more) =
-    ((adding s a).answer.verdict ≡ Accepted → upper_six (get_or a.packet 0 0) ≡ six)
+    ((adding s a).answer.verdict ≡ Ok tt → upper_six (get_or a.packet 0 0) ≡ six)
     × SameSix six (after_add s a) more

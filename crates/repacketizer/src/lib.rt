@@ -16,13 +16,13 @@ ghost use Rattle.repacketizer.specs.Parts.{ReadyAt, Leaves, refused_head, more_f
 
 use collector::{Head, OpusRepacketizer};
 use opus::Short;
-use opus_defines::{Answer, Refusal, Verdict, wide};
+use opus_defines::{Refusal, wide};
 use opus_toc::Samples8k;
 
 // What an add answers: beside a refusal the collector is the one handed in.
 #[derive(Clone, Copy)]
 pub struct Added {
-    pub verdict: Verdict,
+    pub verdict: Result<(), Refusal>,
     pub rp: OpusRepacketizer,
 }
 
@@ -60,8 +60,8 @@ fn said_frames(data: &[u8]) -> u16
 {
     let a = opus_toc::nb_frames(data);
     match a {
-        Answer::Number(n) => n,
-        Answer::Refused(_) => 0,
+        Ok(n) => n,
+        Err(_) => 0,
     }
 }
 
@@ -95,23 +95,19 @@ fn why_not(h: Head, data: &[u8], e: Refusal) -> Refusal
     e
 }
 
-// The lengths of `ns` into `len` from a place on. The first one stands alone: most packets have one frame, and the loop becomes a call.
+// The lengths of `ns` into `len` from a place on. The first one stands alone: most packets have one frame, and the copy is a call.
 fn put_lengths(len: &mut [u16], at: usize, ns: &[u16])
     requires { (1 ≤ length ns.now) × (at + length ns.now ≤ length len.old) }
     ensures { len.new ≡ sets len.old at ns.now }
 {
     len[at] = ns[0];
-    let mut i: usize = 1;
-    while i < ns.len() {
-        len[at + i] = ns[i];
-        i += 1;
-    }
+    len[at + 1..at + ns.len()].copy_from_slice(&ns[1..]);
 }
 
 // What an add answers where the lengths are lent. The count is no `u16`: a struct of eight bytes is kept in one register and taken apart by shifts.
 #[derive(Clone, Copy)]
 pub struct AddedHead {
-    pub verdict: Verdict,
+    pub verdict: Result<(), Refusal>,
     pub toc: u8,
     pub framesize: Samples8k,
     pub count: usize,
@@ -127,14 +123,14 @@ fn more_frames(h: Head, toc: u8, n: usize) -> AddedHead
     if count == 0 {
         let each = opus_toc::samples_8k(toc);
         return AddedHead {
-            verdict: Verdict::Accepted,
+            verdict: Ok(()),
             toc,
             framesize: each,
             count: n,
         };
     }
     AddedHead {
-        verdict: Verdict::Accepted,
+        verdict: Ok(()),
         toc: h.toc,
         framesize,
         count: count + n,
@@ -146,7 +142,7 @@ fn refused_add(e: Refusal, h: Head) -> AddedHead
 {
     let framesize = h.framesize;
     AddedHead {
-        verdict: Verdict::Refused(e),
+        verdict: Err(e),
         toc: h.toc,
         framesize,
         count: wide(h.nb_frames),
@@ -257,14 +253,20 @@ fn add_read(
         return refused_add(Refusal::BadArg, h);
     }
     let mut lengths = [0u16; 48];
-    let p = opus::read_into(data, self_delimited, &mut lengths);
-    let v = p.verdict;
-    let Verdict::Refused(e) = v else {
-        let n = p.count;
-        let first = p.first;
-        return add_block(h, len, packet, at, p.toc, &lengths[..n], data, first, store);
-    };
-    refused_add(why_not(h, data, e), h)
+    match opus::read_into(data, self_delimited, &mut lengths) {
+        Ok(p) => add_block(
+            h,
+            len,
+            packet,
+            at,
+            p.toc,
+            &lengths[..p.count],
+            data,
+            p.first,
+            store,
+        ),
+        Err(e) => refused_add(why_not(h, data, e), h),
+    }
 }
 
 // The same, unless it is to be added strictly and its padding is dirty.

@@ -18,7 +18,7 @@ use borrow.Author.Tests.{eqb-true, eqb-false}
 use Rattle.laws.specs.Bytes.{Bytes}
 use Rattle.laws.proofs.Never.{by_test, cond_elim}
 use Rattle.laws.proofs.Bytes.{bytes_nil, bytes_take, bytes_after}
-use Rattle.opus_defines.specs.declared.Verdict.TheVariants.{Accepted}
+use Rattle.std.specs.Prelude.{Ok}
 use Rattle.opus_size.specs.Size.{most_bytes}
 use Rattle.opus_toc.specs.Toc.{upper_six}
 use Rattle.opus_format.specs.Frames.{lengths, joined, total, longest}
@@ -131,7 +131,7 @@ module _ (sd : Bool) (six : ℕ) (k : six < 64) {s : State} {done : List (List �
       cond_elim (λ (n : ℕ). upper_six n ≡ six) (eqb s.rp.nb_frames 0) toc s.rp.toc (λ e. (spelled_back spells).1)
       (λ e. h.same (omega (arith, count, eqb-false s.rp.nb_frames 0 e)))
 
-  piece_accepted : (adding s one).answer.verdict ≡ Accepted
+  piece_accepted : (adding s one).answer.verdict ≡ Ok tt
   piece_accepted = rw accepted_is
 
   piece_held : Holds six (after_add s one) (done ++ piece)

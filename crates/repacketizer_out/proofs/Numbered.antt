@@ -23,7 +23,7 @@ use Rattle.laws.proofs.Never.{never, by_test}
 use Rattle.laws.proofs.Every.{both_left, both_right}
 use Rattle.opus_defines.specs.Bounds.{most_packet}
 use Rattle.opus_defines.specs.Numbers.{count_of}
-use Rattle.opus_defines.specs.declared.Count.TheVariants.{Negative}
+use Rattle.std.specs.Prelude.{None}
 use Rattle.opus_toc.specs.Toc.{upper_six}
 use Rattle.packet_numbers.specs.Numbers.{steps, numbered}
 use Rattle.packet_numbers.proofs.Growing.{numbered-steps, numbered_first}
@@ -220,10 +220,10 @@ module _ (n : ℕ) (packet : List ℕ) (number : ℤ) where
       go (negsuc k) = refl
       go (pos k) = rw (lt-ltb 48 n h)
 
-  pub range_negative : count_of number ≡ Negative → no_range ≡ range_of n packet number
+  pub range_negative : count_of number ≡ None → no_range ≡ range_of n packet number
   range_negative e = go number e
     where
-      go : (number : ℤ) → count_of number ≡ Negative → no_range ≡ range_of n packet number
+      go : (number : ℤ) → count_of number ≡ None → no_range ≡ range_of n packet number
       go (negsuc k) e = refl
       go (pos k) e = never (cc)
 

@@ -23,7 +23,7 @@ use Rattle.opus_defines.specs.Numbers.{refusal_number, count_of}
 use Rattle.opus_defines.specs.Outcome.{refusal, written, Outcome, leaves, refuses, writes}
 use Rattle.opus_defines.specs.declared.Refusal.{Refusal}
 use Rattle.opus_defines.specs.declared.Refusal.TheVariants.{BadArg, BufferTooSmall, InvalidState}
-use Rattle.opus_defines.specs.declared.Count.TheVariants.{Negative}
+use Rattle.std.specs.Prelude.{None}
 use Rattle.opus_defines.proofs.Outcomes.{meets_number}
 use Rattle.opus_toc.specs.Toc.{upper_six}
 use Rattle.opus_format.specs.Frames.{cut, total}
@@ -69,12 +69,12 @@ module _ (sd pad : Bool) (rp : OpusRepacketizer) (store : List ℕ) (begin end :
 
 -- ---- the range
 module _ (sd pad : Bool) (six : ℕ) (frames : List (List ℕ)) (dst : List ℕ) where
-  pub frames_before : (begin end : ℤ) → count_of begin ≡ Negative
+  pub frames_before : (begin end : ℤ) → count_of begin ≡ None
       → leaves dst (out_frames sd pad six frames begin end (length dst)) ≡ refuses BadArg dst
   frames_before (pos b) end e = never (cc)
   frames_before (negsuc b) end e = refl
 
-  pub frames_under : (begin end : ℤ) → count_of end ≡ Negative → leaves dst (out_frames sd pad six frames begin end (length dst)) ≡ refuses BadArg dst
+  pub frames_under : (begin end : ℤ) → count_of end ≡ None → leaves dst (out_frames sd pad six frames begin end (length dst)) ≡ refuses BadArg dst
   frames_under (negsuc b) end e = refl
   frames_under (pos b) (pos n) e = never (cc)
   frames_under (pos b) (negsuc n) e = refl

@@ -4,7 +4,7 @@ ghost use Rattle.repacketizer_out.specs.Numbered.{one_if, below, no_range, range
 
 use crate::opus_repacketizer_out_range;
 use collector::OpusRepacketizer;
-use opus_defines::{Count, wide};
+use opus_defines::wide;
 
 // A range of frames, as an output takes it: 0 and 0 where there is none.
 #[derive(Clone, Copy)]
@@ -25,10 +25,8 @@ fn count_below(ks: &[u8], k: u8) -> u8
     ensures { result ≡ below k ks.now }
 {
     let mut n: u8 = 0;
-    let mut i: usize = 0;
-    while i < ks.len() {
-        n += one_if(ks[i] < k);
-        i += 1;
+    for &x in ks {
+        n += one_if(x < k);
     }
     n
 }
@@ -60,7 +58,7 @@ pub fn range_of(n: u16, packet: &[u8; 48], number: i32) -> Range
     if 48 < held {
         return no_range();
     }
-    let Count::Is(k) = opus_defines::count_of(number) else {
+    let Some(k) = opus_defines::count_of(number) else {
         return no_range();
     };
     if 48 <= k {

@@ -17,7 +17,7 @@ ghost use Rattle.collector.specs.Parts.{collector_of, bare};
 ghost use Rattle.repacketizer_out.specs.Output.{output, out_frames, out_range, out_all};
 
 use collector::{Head, OpusRepacketizer};
-use opus_defines::{Answer, Count, Refusal, wide};
+use opus_defines::{Refusal, wide};
 use opus_header::{Form, Sums};
 
 // The header of a packet and its frames, which stand in `store` from a place on: one header, one block.
@@ -55,7 +55,7 @@ fn put_frames(
     data: &mut [u8],
     self_delimited: bool,
     pad: bool,
-) -> Answer
+) -> Result<u16, Refusal>
     requires some { (1 ≤ length ns.now) × (length ns.now ≤ 48) × (longest ns.now ≤ most_bytes) }
     requires block { (from + total ns.now ≤ length store.now) × (length «data».old ≤ 65535) }
     ensures number { number_of result
@@ -70,15 +70,15 @@ fn put_frames(
     let need = opus_header::compact_bytes(ns.len(), m, self_delimited);
     let room = data.len();
     if room < need {
-        return Answer::Refused(Refusal::BufferTooSmall);
+        return Err(Refusal::BufferTooSmall);
     }
     let form = opus_header::form_for(ns.len(), need, room, pad);
     let end = put_packet(data, toc, ns, m, form, self_delimited, store, from);
     if pad {
         blocks::fill(data, end, room - end, 0);
-        return Answer::Number(room as u16);
+        return Ok(room as u16);
     }
-    Answer::Number(end as u16)
+    Ok(end as u16)
 }
 
 // The range begin..end of the frames held.
@@ -91,7 +91,7 @@ fn out_frames(
     data: &mut [u8],
     self_delimited: bool,
     pad: bool,
-) -> Answer
+) -> Result<u16, Refusal>
     requires collector { (length len.now ≡ 48) × (framed (bare h len.now) ≡ true) }
     requires buffers { (least_store ≤ length store.now) × (length «data».old ≤ 65535) }
     ensures number { number_of result
@@ -105,10 +105,10 @@ fn out_frames(
 {
     let n = wide(h.nb_frames);
     if end <= begin {
-        return Answer::Refused(Refusal::BadArg);
+        return Err(Refusal::BadArg);
     }
     if n < end {
-        return Answer::Refused(Refusal::BadArg);
+        return Err(Refusal::BadArg);
     }
     let before = collector::total_16(&len[..begin]);
     put_frames(
@@ -133,7 +133,7 @@ fn out_answer(
     data: &mut [u8],
     self_delimited: bool,
     pad: bool,
-) -> Answer
+) -> Result<u16, Refusal>
     ensures number { number_of result
         ≡ (out_range self_delimited pad (collector_of h len.now packet.now) store.now begin end «data».old
         ).report.number }
@@ -143,19 +143,19 @@ fn out_answer(
 {
     let c = collector::check(h, len, packet);
     if !c.sound {
-        return Answer::Refused(Refusal::InvalidState);
+        return Err(Refusal::InvalidState);
     }
     if store.len() < collector::LEAST_STORE {
-        return Answer::Refused(Refusal::BadArg);
+        return Err(Refusal::BadArg);
     }
     if opus::MOST_PACKET < data.len() {
-        return Answer::Refused(Refusal::BadArg);
+        return Err(Refusal::BadArg);
     }
-    let Count::Is(b) = opus_defines::count_of(begin) else {
-        return Answer::Refused(Refusal::BadArg);
+    let Some(b) = opus_defines::count_of(begin) else {
+        return Err(Refusal::BadArg);
     };
-    let Count::Is(e) = opus_defines::count_of(end) else {
-        return Answer::Refused(Refusal::BadArg);
+    let Some(e) = opus_defines::count_of(end) else {
+        return Err(Refusal::BadArg);
     };
     out_frames(h, len, store, b, e, data, self_delimited, pad)
 }

@@ -3,174 +3,66 @@
 // case that turns out to be cut short can take back what it has put there.
 #![tactic(auto)]
 
-use replay_collector::{collect_case, packet_case, places_case, range_case};
-use replay_io::input::{Cursor, Line, NumberAt, Taken, fields, one};
-use replay_io::output::{Flush, flushed, put, text, written};
-use replay_orders::orders_case;
-use replay_streams::join_case;
-use std::io::Stdin;
+mod kind;
 
-// ---- kinds whose fields are read at once
+use crate::kind::Kind;
+use replay_io::{Malformed, Replay};
+use std::io::Read;
+use stdio::WriteFailed;
 
-// The form of a kind's fields (replay_io); F is no field, and makes an unknown kind malformed.
-fn form(kind: usize) -> u64 {
-    match kind {
-        1 | 11 | 12 | 24 => 0x1B00000000,
-        3 | 26 => 0xAB00000000,
-        4 | 27 => 0xB000000000,
-        5 => 0x4AB0000000,
-        6 | 10 | 14 => 0x4B00000000,
-        7 => 0x4100000000,
-        8 | 9 => 0xEB00000000,
-        13 | 16 => 0x44B0000000,
-        15 => 0x444B000000,
-        23 => 0x44AB000000,
-        25 => 0xDDAB000000,
-        28 => 0x11242111CA,
-        _ => 0xF000000000,
+// Answers a case, of which the kind is read, by the crate of that kind.
+fn answer<R: Read + Drop>(case: &mut Replay<R>, number: u8) -> Result<(), Malformed> {
+    match Kind::try_from(number)? {
+        Kind::Packet => replay_reading::packet(case),
+        Kind::Collect => replay_collector::collect(case),
+        Kind::Pad => replay_in_place::pad(case),
+        Kind::Unpad => replay_in_place::unpad(case),
+        Kind::MultistreamPad => replay_in_place::multistream_pad(case),
+        Kind::MultistreamUnpad => replay_in_place::multistream_unpad(case),
+        Kind::WriteSize => replay_reading::write_size(case),
+        Kind::Size => replay_reading::size(case),
+        Kind::FrameCount => replay_reading::frame_count(case),
+        Kind::SamplesPerFrame => replay_reading::samples_per_frame(case),
+        Kind::PacketWithPlace => replay_reading::packet_with_place(case),
+        Kind::SizeWithPlace => replay_reading::size_with_place(case),
+        Kind::PadWithPlace => replay_in_place::pad_with_place(case),
+        Kind::UnpadWithPlace => replay_in_place::unpad_with_place(case),
+        Kind::MultistreamPadWithPlace => replay_in_place::multistream_pad_with_place(case),
+        Kind::MultistreamUnpadWithPlace => replay_in_place::multistream_unpad_with_place(case),
+        Kind::OrdinaryAdds => replay_collector::ordinary_adds(case),
+        Kind::FlaggedAdds => replay_collector::flagged_adds(case),
+        Kind::PacketByNumber => replay_collector::packet_by_number(case),
+        Kind::RangeAndAdd => replay_collector::range_and_add(case),
+        Kind::Orders => replay_orders::orders(case),
+        Kind::Join => replay_streams::join(case),
+        Kind::Take => replay_streams::take(case),
+        Kind::Verdict => replay_reading::verdict(case),
+        Kind::Share => replay_compaction::share(case),
+        Kind::Choice => replay_compaction::choice(case),
+        Kind::ReadHead => replay_heads::read(case),
+        Kind::WriteHead => replay_heads::write(case),
     }
 }
 
-// The line of a kind, by the crate that answers it.
-fn plain_line(
-    kind: usize,
-    ns: &[usize; 10],
-    work: &mut [u8],
-    store: &mut [u8],
-    out: &mut [u8],
-    at: usize,
-) -> usize {
-    match kind {
-        3..=6 | 13..=16 => replay_in_place::line(kind, ns, work, out, at),
-        23 => replay_streams::take_line(ns, work, store, out, at),
-        25 | 26 => replay_compaction::line(kind, ns, work, store, out, at),
-        27 | 28 => replay_heads::line(kind, ns, work, store, out, at),
-        _ => replay_reading::line(kind, ns, work, out, at),
-    }
-}
-
-fn plain_case(
-    from: &mut Stdin,
-    input: &mut [u8],
-    c: Cursor,
-    work: &mut [u8],
-    store: &mut [u8],
-    out: &mut [u8],
-    at: usize,
-    kind: usize,
-) -> Line {
-    let mut ns = [0usize; 10];
-    let Taken::Whole(d) = fields(from, input, c, form(kind), &mut ns, work) else {
-        return Line::Malformed;
-    };
-    Line::Is(d, plain_line(kind, &ns, work, store, out, at))
-}
-
-// ---- all kinds
-
-fn case(
-    from: &mut Stdin,
-    input: &mut [u8],
-    c: Cursor,
-    work: &mut [u8],
-    store: &mut [u8],
-    out: &mut [u8],
-    at: usize,
-    kind: usize,
-) -> Line {
-    match kind {
-        2 => collect_case(from, input, c, work, store, out, at),
-        17 | 18 => places_case(from, input, c, work, store, out, at, kind),
-        19 => packet_case(from, input, c, work, store, out, at),
-        20 => range_case(from, input, c, work, store, out, at),
-        21 => orders_case(from, input, c, work, store, out, at),
-        22 => join_case(from, input, c, work, store, out, at),
-        _ => plain_case(from, input, c, work, store, out, at, kind),
-    }
-}
-
-// A turn: whether the program goes on, and where the input and the output do.
-#[derive(Clone, Copy)]
-struct Turn {
-    on: bool,
-    next: Cursor,
-    out: usize,
-}
-
-fn last(c: Cursor, at: usize) -> Turn {
-    Turn {
-        on: false,
-        next: c,
-        out: at,
-    }
-}
-
-// The turn behind a line.
-fn turned(out: &mut [u8], c: Cursor, at: usize) -> Turn {
-    let end = put(out, at, b'\n');
-    let Flush::To(place) = flushed(out, end) else {
-        return last(c, 0);
-    };
-    Turn {
-        on: true,
-        next: c,
-        out: place,
-    }
-}
-
-// Answers one case, if the input has not ended.
-fn answer(
-    from: &mut Stdin,
-    input: &mut [u8],
-    work: &mut [u8],
-    store: &mut [u8],
-    out: &mut [u8],
-    t: Turn,
-) -> Turn {
-    let at = t.out;
-    let c = t.next;
-    let NumberAt::Is(kind, d) = one(from, input, c) else {
-        return last(c, at);
-    };
-    let Line::Is(e, next) = case(from, input, d, work, store, out, at, kind) else {
-        return last(d, text(out, at, b"malformed\n"));
-    };
-    turned(out, e, next)
-}
-
-// Nothing says that the input ends, so the turns are counted down.
-fn replay(
-    from: &mut Stdin,
-    input: &mut [u8],
-    work: &mut [u8],
-    store: &mut [u8],
-    out: &mut [u8],
-) -> usize {
-    let mut t = Turn {
-        on: true,
-        next: Cursor {
-            at: 0,
-            end: 0,
-            came: 0,
-        },
-        out: 0,
-    };
-    let mut left: u64 = 18446744073709551615;
-    while 0 < left {
-        t = answer(from, input, work, store, out, t);
-        if !t.on {
-            return t.out;
+// Answers cases until the input ends, one is malformed, or a line cannot be written. Nothing says that the input ends, so they are counted.
+fn replay<R: Read + Drop>(case: &mut Replay<R>) -> Result<(), WriteFailed> {
+    for _ in 0..u64::MAX {
+        let Ok(number) = case.input.u8() else {
+            break;
+        };
+        let mark = case.out.mark();
+        if answer(case, number).is_err() {
+            case.out.take_back(mark);
+            case.out.text(b"malformed\n");
+            break;
         }
-        left -= 1;
+        case.out.put(b'\n');
+        case.out.flush_full()?;
     }
-    t.out
+    case.out.flush()
 }
 
+// What cannot be written is told, and a program has no exit status.
 fn main(rt: HostRuntime) {
-    let mut input = [0u8; 65536];
-    let mut work = [0u8; 65536];
-    let mut store = [0u8; 65536];
-    let mut out = [0u8; 335872];
-    let n = replay(&mut rt.stdin(), &mut input, &mut work, &mut store, &mut out);
-    written(&out, n);
+    let _ = replay(&mut Replay::new(rt.stdin()));
 }

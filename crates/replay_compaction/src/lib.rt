@@ -3,75 +3,51 @@
 
 use compaction::Share;
 use opus_defines::{OPUS_OK, verdict_number};
-use replay_io::output::{buffer, field, number, put};
-use replay_io::room::unset;
+use replay_io::output::Output;
+use replay_io::{Malformed, Replay, room};
+use std::io::Read;
 
-fn share_told(out: &mut [u8], at: usize, s: Share) -> usize {
-    let v = s.verdict;
-    let a = number(out, at, verdict_number(OPUS_OK, v));
-    let b = field(out, a, s.resume);
-    let c = field(out, b, s.records);
-    let d = field(out, c, s.written);
-    let e = field(out, d, s.reclaimed);
-    field(out, e, s.passed)
+fn put_share(out: &mut Output, s: Share) {
+    out.number(verdict_number(OPUS_OK, s.verdict));
+    out.field(s.resume);
+    out.field(s.records);
+    out.field(s.written);
+    out.field(s.reclaimed);
+    out.field(s.passed);
 }
 
-// Nothing but the packet itself, of n bytes, is as long as the packet.
-fn which(k: usize, n: usize) -> u8 {
-    if k == n { b'0' } else { b'1' }
+// Kind 25.
+pub fn share<R: Read + Drop>(case: &mut Replay<R>) -> Result<(), Malformed> {
+    let start = case.input.natural()?;
+    let budget = case.input.natural()?;
+    let size = case.input.length()?;
+    let capture = case.input.bytes(&mut case.work)?;
+    let lent = room(&mut case.store, size);
+    let s = compaction::compact_share(capture, start, lent, budget);
+    put_share(&mut case.out, s);
+    case.out.put(b' ');
+    case.out.buffer(lent);
+    Ok(())
 }
 
-fn choice_told(out: &mut [u8], at: usize, packet: &[u8], work: &mut [u8]) -> usize {
-    let p = spelling::shorter(packet, work);
-    let k = p.len();
-    let a = put(out, at, which(k, packet.len()));
-    let b = put(out, a, b' ');
-    buffer(out, b, p, k)
+// Nothing but the packet itself is as long as the packet.
+fn put_choice(out: &mut Output, packet: &[u8], shorter: &[u8]) {
+    out.put(if shorter.len() == packet.len() {
+        b'0'
+    } else {
+        b'1'
+    });
+    out.put(b' ');
+    out.buffer(shorter);
+    out.put(b' ');
 }
 
-// Kind 25: a capture, its start, the budget, and a room.
-fn shared(out: &mut [u8], at: usize, ns: &[usize; 10], work: &[u8], store: &mut [u8]) -> usize {
-    let room = ns[2];
-    let n = ns[3];
-    if work.len() < n {
-        return at;
-    }
-    if store.len() < room {
-        return at;
-    }
-    unset(store, room);
-    let s = compaction::compact_share(&work[0..n], ns[0], &mut store[0..room], ns[1]);
-    let a = share_told(out, at, s);
-    let b = put(out, a, b' ');
-    buffer(out, b, store, room)
-}
-
-// Kind 26: a packet, and a room for its other spelling.
-fn chosen(out: &mut [u8], at: usize, ns: &[usize; 10], work: &[u8], store: &mut [u8]) -> usize {
-    let room = ns[0];
-    let n = ns[1];
-    if work.len() < n {
-        return at;
-    }
-    if store.len() < room {
-        return at;
-    }
-    unset(store, room);
-    let a = choice_told(out, at, &work[0..n], &mut store[0..room]);
-    let b = put(out, a, b' ');
-    buffer(out, b, store, room)
-}
-
-pub fn line(
-    kind: usize,
-    ns: &[usize; 10],
-    work: &[u8],
-    store: &mut [u8],
-    out: &mut [u8],
-    at: usize,
-) -> usize {
-    if kind == 25 {
-        return shared(out, at, ns, work, store);
-    }
-    chosen(out, at, ns, work, store)
+// Kind 26.
+pub fn choice<R: Read + Drop>(case: &mut Replay<R>) -> Result<(), Malformed> {
+    let size = case.input.length()?;
+    let packet = case.input.bytes(&mut case.work)?;
+    let lent = room(&mut case.store, size);
+    put_choice(&mut case.out, packet, spelling::shorter(packet, lent));
+    case.out.buffer(lent);
+    Ok(())
 }

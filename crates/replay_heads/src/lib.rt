@@ -2,112 +2,62 @@
 #![tactic(auto)]
 
 use opus_defines::{OPUS_OK, verdict_number};
-use opus_head::{HeadRead, OpusHead};
-use replay_io::input::{low_8, low_16};
-use replay_io::output::{buffer, field, number, number_and_buffer, put};
-use replay_io::room::unset;
+use opus_head::OpusHead;
+use replay_io::input::Input;
+use replay_io::output::Output;
+use replay_io::{Malformed, Replay, room};
+use std::io::Read;
 
-// ---- read
-
-fn wide_gain(gain: i16) -> i32 {
-    gain as i32
-}
-
-// Three numbers, each behind a space.
-fn three(out: &mut [u8], at: usize, x: u8, y: u8, z: u16) -> usize {
-    let a = field(out, at, x as usize);
-    let b = field(out, a, y as usize);
-    field(out, b, z as usize)
-}
-
-fn rate_and_gain(out: &mut [u8], at: usize, rate: u32, gain: i16) -> usize {
-    let a = field(out, at, rate as usize);
-    let b = put(out, a, b' ');
-    number(out, b, wide_gain(gain))
-}
-
-fn mapping_told(out: &mut [u8], at: usize, mapping: &[u8]) -> usize {
-    let a = put(out, at, b' ');
-    buffer(out, a, mapping, 255)
-}
+// ---- kind 27
 
 // The fields, each behind a space.
-fn fields_told(out: &mut [u8], at: usize, head: OpusHead) -> usize {
-    let mapping = head.mapping;
-    let a = three(out, at, head.version, head.channels, head.pre_skip);
-    let b = rate_and_gain(out, a, head.rate, head.gain);
-    let c = three(out, b, head.family, head.streams, head.coupled as u16);
-    mapping_told(out, c, &mapping)
+fn put_head(out: &mut Output, head: &OpusHead) {
+    out.field(head.version as usize);
+    out.field(head.channels as usize);
+    out.field(head.pre_skip as usize);
+    out.field(head.rate as usize);
+    out.put(b' ');
+    out.number(head.gain as i32);
+    out.field(head.family as usize);
+    out.field(head.streams as usize);
+    out.field(head.coupled as usize);
+    out.put(b' ');
+    out.buffer(&head.mapping);
 }
 
-fn told(out: &mut [u8], at: usize, r: HeadRead) -> usize {
-    let v = r.verdict;
-    let a = number(out, at, verdict_number(OPUS_OK, v));
-    let head = r.head;
-    fields_told(out, a, head)
+pub fn read<R: Read + Drop>(case: &mut Replay<R>) -> Result<(), Malformed> {
+    let bytes = case.input.bytes(&mut case.work)?;
+    let r = opus_head::head_read(bytes);
+    case.out.number(verdict_number(OPUS_OK, r.verdict));
+    put_head(&mut case.out, &r.head);
+    Ok(())
 }
 
-// ---- written
+// ---- kind 28
 
-// 32 bits.
-fn low_32(u: usize) -> u32 {
-    (u % 4294967296) as u32
+// The mapping's entries stand behind their number, and those behind them are 0.
+fn read_fields<R: Read + Drop>(input: &mut Input<R>) -> Result<OpusHead, Malformed> {
+    let mut head = OpusHead {
+        version: input.u8()?,
+        channels: input.u8()?,
+        pre_skip: input.u16()?,
+        rate: input.u32()?,
+        gain: input.i16()?,
+        family: input.u8()?,
+        streams: input.u8()?,
+        coupled: input.u8()?,
+        mapping: [0; 255],
+    };
+    let n = input.u8()? as usize;
+    input.read_exact(&mut head.mapping[..n])?;
+    Ok(head)
 }
 
-// 16 bits as a signed number.
-fn gain_of(u: u16) -> i16 {
-    if u < 32768 {
-        return u as i16;
-    }
-    !((65535 - u) as i16)
-}
-
-// The fields in the case's order; the entries stand at the front of `work`, and those behind them are 0.
-fn head_of(ns: &[usize; 10], work: &[u8]) -> OpusHead {
-    let mut mapping = [0u8; 255];
-    let count = ns[8];
-    if count <= 255 {
-        if count <= work.len() {
-            blocks::copy_into(&mut mapping, 0, work, 0, count);
-        }
-    }
-    OpusHead {
-        version: low_8(ns[0]),
-        channels: low_8(ns[1]),
-        pre_skip: low_16(ns[2]),
-        rate: low_32(ns[3]),
-        gain: gain_of(low_16(ns[4])),
-        family: low_8(ns[5]),
-        streams: low_8(ns[6]),
-        coupled: low_8(ns[7]),
-        mapping,
-    }
-}
-
-// So many bytes of `store` as there is room are the destination.
-fn written(out: &mut [u8], at: usize, head: OpusHead, store: &mut [u8], room: usize) -> usize {
-    if store.len() < room {
-        return at;
-    }
-    unset(store, room);
-    let x = opus_head::head_write(head, &mut store[0..room]);
-    number_and_buffer(out, at, x, store, room)
-}
-
-pub fn line(
-    kind: usize,
-    ns: &[usize; 10],
-    work: &[u8],
-    store: &mut [u8],
-    out: &mut [u8],
-    at: usize,
-) -> usize {
-    if kind == 28 {
-        return written(out, at, head_of(ns, work), store, ns[9]);
-    }
-    let n = ns[0];
-    if work.len() < n {
-        return at;
-    }
-    told(out, at, opus_head::head_read(&work[0..n]))
+pub fn write<R: Read + Drop>(case: &mut Replay<R>) -> Result<(), Malformed> {
+    let head = read_fields(&mut case.input)?;
+    let size = case.input.length()?;
+    let lent = room(&mut case.store, size);
+    let written = opus_head::head_write(head, lent);
+    case.out.number_and_buffer(written, lent);
+    Ok(())
 }

@@ -2,93 +2,108 @@
 // zeros behind it up to the new length, and tell a number; the others lend a buffer, give lengths of any value, and tell rule and place too.
 #![tactic(auto)]
 
-use opus_defines::{Answer, Report};
-use replay_io::input::signed;
-use replay_io::output::{number_and_buffer, report_and_buffer};
+ghost use Rattle.std.specs.Prelude.{◌≤◌};
 
-// What a case asks for: the numbers of the call, the bytes given, and how many are lent.
-#[derive(Clone, Copy)]
-struct Asked {
-    streams: i32,
-    len: i32,
-    new: i32,
-    given: usize,
-    lent: usize,
+use multistream::{opus_multistream_packet_pad, opus_multistream_packet_unpad};
+use opus_defines::Report;
+use packet_pad::{opus_packet_pad, opus_packet_unpad};
+use replay_io::{MOST, Malformed, Replay};
+use std::io::Read;
+
+// ---- kinds 3 to 6: a packet
+
+// The first bytes of a buffer up to `end`, zeros from `len` on.
+fn with_zeros(buffer: &mut [u8; MOST], len: usize, end: usize) -> &mut [u8]
+    requires { (len ≤ end) × (end ≤ MOST) }
+{
+    let bytes = &mut buffer[..end];
+    bytes[len..].fill(0);
+    bytes
 }
 
-fn most(a: usize, b: usize) -> usize {
-    if a < b { b } else { a }
+// Lends a call the packet, with zeros behind it up to its new length; the number is the packet's own length.
+fn packet<R: Read + Drop, F: FnOnce(&mut [u8], i32) -> Report>(
+    case: &mut Replay<R>,
+    new: usize,
+    call: F,
+) -> Result<(), Malformed>
+    requires room { new ≤ MOST }
+    requires callable { F.IsAlwaysCallable call }
+{
+    let len = case.input.bytes(&mut case.work)?.len();
+    let lent = with_zeros(&mut case.work, len, len.max(new));
+    let r = call(lent, len as i32);
+    case.out.number_and_buffer(r.number, lent);
+    Ok(())
 }
 
-// A packet of so many bytes, and its new length.
-fn packet(streams: usize, new: usize, n: usize) -> Asked {
-    Asked {
-        streams: signed(streams),
-        len: signed(n),
-        new: signed(new),
-        given: n,
-        lent: most(n, new),
-    }
+pub fn pad<R: Read + Drop>(case: &mut Replay<R>) -> Result<(), Malformed> {
+    let new = case.input.length()?;
+    packet(
+        case,
+        new,
+        |data, len| opus_packet_pad(data, len, new as i32),
+    )
 }
 
-// A buffer of so many bytes, and lengths of any value.
-fn buffer(streams: usize, len: usize, new: usize, n: usize) -> Asked {
-    Asked {
-        streams: signed(streams),
-        len: signed(len),
-        new: signed(new),
-        given: n,
-        lent: n,
-    }
+pub fn unpad<R: Read + Drop>(case: &mut Replay<R>) -> Result<(), Malformed> {
+    packet(case, 0, opus_packet_unpad)
 }
 
-fn asks(kind: usize, ns: &[usize; 10]) -> Asked {
-    match kind {
-        3 => packet(0, ns[0], ns[1]),
-        4 => packet(0, ns[0], ns[0]),
-        5 => packet(ns[0], ns[1], ns[2]),
-        6 => packet(ns[0], ns[1], ns[1]),
-        13 => buffer(0, ns[0], ns[1], ns[2]),
-        14 => buffer(0, ns[0], 0, ns[1]),
-        15 => buffer(ns[0], ns[1], ns[2], ns[3]),
-        _ => buffer(ns[0], ns[1], 0, ns[2]),
-    }
+pub fn multistream_pad<R: Read + Drop>(case: &mut Replay<R>) -> Result<(), Malformed> {
+    let streams = case.input.i32()?;
+    let new = case.input.length()?;
+    packet(case, new, |data, len| {
+        opus_multistream_packet_pad(data, len, new as i32, streams)
+    })
 }
 
-fn call(kind: usize, data: &mut [u8], a: Asked) -> Report {
-    match kind {
-        3 | 13 => packet_pad::opus_packet_pad(data, a.len, a.new),
-        4 | 14 => packet_pad::opus_packet_unpad(data, a.len),
-        5 | 15 => multistream::opus_multistream_packet_pad(data, a.len, a.new, a.streams),
-        _ => multistream::opus_multistream_packet_unpad(data, a.len, a.streams),
-    }
+pub fn multistream_unpad<R: Read + Drop>(case: &mut Replay<R>) -> Result<(), Malformed> {
+    let streams = case.input.i32()?;
+    packet(case, 0, |data, len| {
+        opus_multistream_packet_unpad(data, len, streams)
+    })
 }
 
-// Zeros behind the bytes given.
-fn zeros(work: &mut [u8], given: usize, lent: usize) {
-    if lent <= given {
-        return;
-    }
-    if lent <= work.len() {
-        blocks::fill(work, given, lent - given, 0);
-    }
+// ---- kinds 13 to 16: a buffer
+
+// Lends a call the buffer.
+fn buffer<R: Read + Drop, F: FnOnce(&mut [u8]) -> Report>(
+    case: &mut Replay<R>,
+    call: F,
+) -> Result<(), Malformed>
+    requires { F.IsAlwaysCallable call }
+{
+    let lent = case.input.buffer(&mut case.work)?;
+    let r = call(lent);
+    case.out.report_and_buffer(r, lent);
+    Ok(())
 }
 
-// The call upon the front of `work`.
-fn called(kind: usize, work: &mut [u8], a: Asked) -> Report {
-    let lent = a.lent;
-    zeros(work, a.given, lent);
-    if work.len() < lent {
-        return opus_defines::report_of(Answer::Number(0));
-    }
-    call(kind, &mut work[0..lent], a)
+pub fn pad_with_place<R: Read + Drop>(case: &mut Replay<R>) -> Result<(), Malformed> {
+    let len = case.input.i32()?;
+    let new = case.input.i32()?;
+    buffer(case, |data| opus_packet_pad(data, len, new))
 }
 
-pub fn line(kind: usize, ns: &[usize; 10], work: &mut [u8], out: &mut [u8], at: usize) -> usize {
-    let a = asks(kind, ns);
-    let r = called(kind, work, a);
-    if kind < 13 {
-        return number_and_buffer(out, at, r.number, work, a.lent);
-    }
-    report_and_buffer(out, at, r, work, a.lent)
+pub fn unpad_with_place<R: Read + Drop>(case: &mut Replay<R>) -> Result<(), Malformed> {
+    let len = case.input.i32()?;
+    buffer(case, |data| opus_packet_unpad(data, len))
+}
+
+pub fn multistream_pad_with_place<R: Read + Drop>(case: &mut Replay<R>) -> Result<(), Malformed> {
+    let streams = case.input.i32()?;
+    let len = case.input.i32()?;
+    let new = case.input.i32()?;
+    buffer(case, |data| {
+        opus_multistream_packet_pad(data, len, new, streams)
+    })
+}
+
+pub fn multistream_unpad_with_place<R: Read + Drop>(case: &mut Replay<R>) -> Result<(), Malformed> {
+    let streams = case.input.i32()?;
+    let len = case.input.i32()?;
+    buffer(case, |data| {
+        opus_multistream_packet_unpad(data, len, streams)
+    })
 }

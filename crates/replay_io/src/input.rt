@@ -1,310 +1,145 @@
-// The fields of a case, taken from the input buffer, which is filled again as need be.
-ghost use Rattle.std.specs.Prelude.{◌≤◌};
+// The fields of a case, read through a buffer that is filled again as need be.
+ghost use Rattle.std.specs.Prelude.{◌<◌, ◌≤◌, ◌^◌, length, IfOk};
+ghost use Rattle.replay_io.specs.declared.input.TheConstants.{READ};
 
-use std::io::Stdin;
-use stdio::Got;
+use crate::{MOST, Malformed};
+use std::io::Read;
 
-// The longest packet, room or new length of a case.
-pub const MOST: usize = 65536;
+// How many bytes are read at once.
+const READ: usize = 65536;
 
-// The bytes that came are counted up to here.
-const COUNTED: usize = 4611686018427387904;
-
-// The bytes of the input buffer that are read and not used yet, and how many bytes have come so far.
-#[derive(Clone, Copy)]
-pub struct Cursor {
-    pub at: usize,
-    pub end: usize,
-    pub came: usize,
+// The input: the bytes of the buffer that are not used yet, and how many have come so far.
+#[derive(Drop)]
+pub struct Input<R> {
+    from: R,
+    buffer: [u8; READ],
+    at: usize,
+    end: usize,
+    came: usize,
+    ghost ordered: { at ≤ end },
+    ghost within: { end ≤ READ },
 }
 
-// A number of a case, and where the input goes on behind it.
-#[derive(Clone, Copy)]
-pub enum NumberAt {
-    Is(usize, Cursor),
-    Cut,
-}
-
-// Where the input goes on behind some fields.
-#[derive(Clone, Copy)]
-pub enum Taken {
-    Whole(Cursor),
-    Cut,
-}
-
-// A case that was answered: where the input and the output go on.
-#[derive(Clone, Copy)]
-pub enum Line {
-    Is(Cursor, usize),
-    Malformed,
-}
-
-// ---- bytes
-
-fn counted(came: usize, n: usize) -> usize {
-    if COUNTED <= came {
-        return came;
-    }
-    if COUNTED <= n {
-        return came;
-    }
-    came + n
-}
-
-fn filled(came: usize, n: usize) -> Cursor {
-    Cursor {
-        at: 0,
-        end: n,
-        came: counted(came, n),
-    }
-}
-
-fn read(from: &mut Stdin, input: &mut [u8]) -> Got {
-    if input.len() == 0 {
-        return Got::End;
-    }
-    stdio::read_more(from, input, 0)
-}
-
-// A read that fails is told, and ends the input besides.
-fn refilled(from: &mut Stdin, input: &mut [u8], came: usize) -> Cursor {
-    let got = read(from, input);
-    match got {
-        Got::Bytes(n) => {
-            return filled(came, n);
-        }
-        Got::End => {
-            return filled(came, 0);
-        }
-        Got::Failed => {
-            stdio::tell_read_failed(came);
-            return filled(came, 0);
+impl<R: Read + Drop> Input<R> {
+    pub fn new(from: R) -> Self {
+        Input {
+            from,
+            buffer: [0; READ],
+            at: 0,
+            end: 0,
+            came: 0,
         }
     }
-}
 
-// The cursor with a byte behind it, unless the input has ended.
-fn ready(from: &mut Stdin, input: &mut [u8], c: Cursor) -> Cursor {
-    if c.at < c.end {
-        return c;
-    }
-    refilled(from, input, c.came)
-}
-
-fn byte_at(input: &[u8], c: Cursor) -> NumberAt {
-    let at = c.at;
-    if c.end <= at {
-        return NumberAt::Cut;
-    }
-    if input.len() <= at {
-        return NumberAt::Cut;
-    }
-    NumberAt::Is(
-        opus_defines::wide_byte(input[at]),
-        Cursor {
-            at: at + 1,
-            end: c.end,
-            came: c.came,
-        },
-    )
-}
-
-fn least(a: usize, b: usize) -> usize
-    ensures { (result ≤ a) × (result ≤ b) }
-{
-    if a < b { a } else { b }
-}
-
-// How many bytes of the input buffer are taken at once where `most` are wanted.
-fn piece(c: Cursor, most: usize) -> usize
-    ensures { result ≤ most }
-{
-    let at = c.at;
-    let end = c.end;
-    if end <= at {
-        return 0;
-    }
-    least(end - at, most)
-}
-
-fn behind(c: Cursor, k: usize) -> Cursor {
-    let at = c.at;
-    let end = c.end;
-    if end <= at {
-        return c;
-    }
-    if end - at < k {
-        return c;
-    }
-    Cursor {
-        at: at + k,
-        end,
-        came: c.came,
-    }
-}
-
-// Copies k bytes of the input buffer to `work` at `to`.
-fn copied(input: &[u8], c: Cursor, work: &mut [u8], to: usize, k: usize) {
-    let at = c.at;
-    if input.len() <= at {
-        return;
-    }
-    if work.len() <= to {
-        return;
-    }
-    if input.len() - at < k {
-        return;
-    }
-    if work.len() - to < k {
-        return;
-    }
-    blocks::copy_into(work, to, input, at, k);
-}
-
-// Takes n bytes off the input to the start of `work`.
-fn take(from: &mut Stdin, input: &mut [u8], c: Cursor, work: &mut [u8], n: usize) -> Taken {
-    let mut next = c;
-    let mut done: usize = 0;
-    while done < n {
-        let d = ready(from, input, next);
-        let k = piece(d, n - done);
-        if k == 0 {
-            return Taken::Cut;
-        }
-        copied(input, d, work, done, k);
-        next = behind(d, k);
-        done += k;
-    }
-    Taken::Whole(next)
-}
-
-// ---- numbers, low byte first
-
-pub fn one(from: &mut Stdin, input: &mut [u8], c: Cursor) -> NumberAt {
-    let d = ready(from, input, c);
-    byte_at(input, d)
-}
-
-fn joined(low: usize, high: usize) -> usize {
-    low % 256 + 256 * (high % 256)
-}
-
-fn two(from: &mut Stdin, input: &mut [u8], c: Cursor) -> NumberAt {
-    let NumberAt::Is(low, d) = one(from, input, c) else {
-        return NumberAt::Cut;
-    };
-    let NumberAt::Is(high, e) = one(from, input, d) else {
-        return NumberAt::Cut;
-    };
-    NumberAt::Is(joined(low, high), e)
-}
-
-fn joined_twos(low: usize, high: usize) -> usize {
-    low % 65536 + 65536 * (high % 65536)
-}
-
-// Four bytes, as a number below 2^32.
-fn four(from: &mut Stdin, input: &mut [u8], c: Cursor) -> NumberAt {
-    let NumberAt::Is(low, d) = two(from, input, c) else {
-        return NumberAt::Cut;
-    };
-    let NumberAt::Is(high, e) = two(from, input, d) else {
-        return NumberAt::Cut;
-    };
-    NumberAt::Is(joined_twos(low, high), e)
-}
-
-// Four bytes, of a number that is not above `most`.
-fn within(from: &mut Stdin, input: &mut [u8], c: Cursor, most: usize) -> NumberAt {
-    let NumberAt::Is(n, d) = four(from, input, c) else {
-        return NumberAt::Cut;
-    };
-    if most < n {
-        return NumberAt::Cut;
-    }
-    NumberAt::Is(n, d)
-}
-
-// The signed number that four bytes hold.
-pub fn signed(u: usize) -> i32 {
-    if u < 2147483648 {
-        return u as i32;
-    }
-    if u < 4294967296 {
-        return !((4294967295 - u) as i32);
-    }
-    0
-}
-
-// What one byte or two hold.
-pub fn low_8(u: usize) -> u8 {
-    (u % 256) as u8
-}
-
-pub fn low_16(u: usize) -> u16 {
-    (u % 65536) as u16
-}
-
-// ---- fields
-
-// Bytes behind their number, which is read already: they go to the start of `work`.
-fn bytes(from: &mut Stdin, input: &mut [u8], work: &mut [u8], n: NumberAt) -> NumberAt {
-    let NumberAt::Is(k, c) = n else {
-        return NumberAt::Cut;
-    };
-    let Taken::Whole(d) = take(from, input, c, work, k) else {
-        return NumberAt::Cut;
-    };
-    NumberAt::Is(k, d)
-}
-
-// The field of a digit: 1, 2 and 4 are a number of so many bytes, A a room or a length, B bytes behind their length, C bytes behind a length of one byte,
-// D four bytes of a number that is not negative; E is no field, and the number 0.
-fn field(from: &mut Stdin, input: &mut [u8], c: Cursor, digit: u64, work: &mut [u8]) -> NumberAt {
-    match digit {
-        1 => one(from, input, c),
-        2 => two(from, input, c),
-        4 => four(from, input, c),
-        0xA => within(from, input, c, MOST),
-        0xB => {
-            let n = within(from, input, c, MOST);
-            bytes(from, input, work, n)
-        }
-        0xC => {
-            let n = one(from, input, c);
-            bytes(from, input, work, n)
-        }
-        0xD => within(from, input, c, 2147483647),
-        0xE => NumberAt::Is(0, c),
-        _ => NumberAt::Cut,
-    }
-}
-
-// Takes the fields of a form off the input, and puts their numbers, of bytes how many, into `ns`. A form has ten hexadecimal digits, one for each field, from
-// the first on; a 0 ends it.
-pub fn fields(
-    from: &mut Stdin,
-    input: &mut [u8],
-    c: Cursor,
-    form: u64,
-    ns: &mut [usize; 10],
-    work: &mut [u8],
-) -> Taken {
-    let mut left = form;
-    let mut next = c;
-    let mut i: usize = 0;
-    while i < 10 {
-        let digit = left / 0x1000000000;
-        if digit == 0 {
-            return Taken::Whole(next);
-        }
-        let NumberAt::Is(n, d) = field(from, input, next, digit, work) else {
-            return Taken::Cut;
+    // Fills the buffer again. A read that fails is told, and ends the input besides.
+    fn refill(&mut self) {
+        let n = match stdio::read_more(&mut self.from, &mut self.buffer, 0) {
+            Ok(n) => n,
+            Err(_) => {
+                stdio::tell_read_failed(self.came);
+                0
+            }
         };
-        ns[i] = n;
-        left = left % 0x1000000000 * 16;
-        next = d;
-        i += 1;
+        self.at = 0;
+        self.end = n;
+        self.came = self.came.saturating_add(n);
     }
-    Taken::Whole(next)
+
+    // Fills a buffer from the input.
+    pub fn read_exact(&mut self, to: &mut [u8]) -> Result<(), Malformed> {
+        let mut done: usize = 0;
+        while done < to.len() {
+            if self.at == self.end {
+                self.refill();
+            }
+            let k = (self.end - self.at).min(to.len() - done);
+            if k == 0 {
+                return Err(Malformed);
+            }
+            to[done..done + k].copy_from_slice(&self.buffer[self.at..self.at + k]);
+            self.at += k;
+            done += k;
+        }
+        Ok(())
+    }
+
+    fn array<const N: usize>(&mut self) -> Result<[u8; N], Malformed> {
+        let mut bytes = [0; N];
+        self.read_exact(&mut bytes)?;
+        Ok(bytes)
+    }
+
+    // ---- numbers, low byte first
+
+    pub fn u8(&mut self) -> Result<u8, Malformed> {
+        let [n] = self.array::<1>()?;
+        Ok(n)
+    }
+
+    pub fn u16(&mut self) -> Result<u16, Malformed> {
+        Ok(u16::from_le_bytes(self.array()?))
+    }
+
+    pub fn i16(&mut self) -> Result<i16, Malformed> {
+        Ok(i16::from_le_bytes(self.array()?))
+    }
+
+    pub fn u32(&mut self) -> Result<u32, Malformed> {
+        Ok(u32::from_le_bytes(self.array()?))
+    }
+
+    pub fn i32(&mut self) -> Result<i32, Malformed> {
+        Ok(i32::from_le_bytes(self.array()?))
+    }
+
+    pub fn flag(&mut self) -> Result<bool, Malformed> {
+        Ok(self.u8()? != 0)
+    }
+
+    // A number of four bytes, which is not above `most`.
+    fn up_to(&mut self, most: usize) -> Result<usize, Malformed>
+        ensures { IfOk result (λ n. n ≤ most) }
+    {
+        let n = self.u32()? as usize;
+        if most < n {
+            return Err(Malformed);
+        }
+        Ok(n)
+    }
+
+    // A room or a length.
+    pub fn length(&mut self) -> Result<usize, Malformed>
+        ensures { IfOk result (λ n. n ≤ MOST) }
+    {
+        self.up_to(MOST)
+    }
+
+    // A number that is not negative.
+    pub fn natural(&mut self) -> Result<usize, Malformed>
+        ensures { IfOk result (λ n. n < 2 ^ 31) }
+    {
+        self.up_to(i32::MAX as usize)
+    }
+
+    // ---- bytes behind their length
+
+    // Puts them at the front of a buffer.
+    pub fn buffer<'b>(&mut self, to: &'b mut [u8; MOST]) -> Result<&'b mut [u8], Malformed>
+        ensures { IfOk result (λ s. length s.now ≤ MOST) }
+    {
+        let n = self.length()?;
+        let bytes = &mut to[..n];
+        self.read_exact(bytes)?;
+        Ok(bytes)
+    }
+
+    // The same where they are only read.
+    pub fn bytes<'b>(&mut self, to: &'b mut [u8; MOST]) -> Result<&'b [u8], Malformed>
+        ensures { IfOk result (λ s. length s.now ≤ MOST) }
+    {
+        let n = self.length()?;
+        self.read_exact(&mut to[..n])?;
+        let bytes = &*to;
+        Ok(&bytes[..n])
+    }
 }

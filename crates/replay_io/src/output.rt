@@ -1,145 +1,180 @@
-// Text put into the output buffer: each function answers the next place in `out`.
-use opus_defines::{Refusal, Report};
+// The lines of the answers, in a buffer that is written where it is nearly full.
+ghost use Rattle.std.specs.Prelude.{◌≡◌, ℕ, ◌<◌, ◌≤◌, List, [], ◌∷◌, ◌++◌, length, take, OnOk};
+ghost use Rattle.replay_io.specs.declared.output.TheConstants.{ROOM};
+ghost use Rattle.opus_defines.specs.Numbers.{refusal_number};
+ghost use Rattle.show.specs.Text.{decimal as Text·decimal, integer};
+ghost use Rattle.replay_io.specs.Lines.{Puts, field, fields, report, hex_digit, buffer};
 
-// The output is written once it holds so many bytes. A line has fewer than 270,000.
+use opus_defines::{Refusal, Report};
+use std::marker::Model;
+use stdio::WriteFailed;
+
+// The output is written once it holds so many bytes.
 const FULL: usize = 65536;
 
-pub fn put(out: &mut [u8], at: usize, b: u8) -> usize {
-    if at < out.len() {
-        out[at] = b;
-        return at + 1;
-    }
-    at
+// A line has fewer than 270,000 bytes.
+const ROOM: usize = 335872;
+
+#[derive(Drop)]
+pub struct Output {
+    bytes: [u8; ROOM],
+    end: usize,
 }
 
-pub fn text(out: &mut [u8], at: usize, s: &[u8]) -> usize {
-    let mut next = at;
-    let mut i: usize = 0;
-    while i < s.len() {
-        next = put(out, next, s[i]);
-        i += 1;
-    }
-    next
+// Clauses see the bytes that are not written yet.
+impl Model for Output {
+    ghost Value = { List ℕ };
+
+    ghost view = { λ o. take o.end o.bytes };
+
+    ghost invariant = { λ o. o.end ≤ ROOM };
 }
 
-pub fn decimal(out: &mut [u8], at: usize, n: usize) -> usize {
-    let mut digits = [0u8; 20];
-    let k = io::decimal(n as u64, &mut digits);
-    text(out, at, &digits[..k])
-}
-
-// A number that a call returned.
-pub fn number(out: &mut [u8], at: usize, n: i32) -> usize {
-    let mut digits = [0u8; 11];
-    let k = show::number_text(&mut digits, n);
-    text(out, at, &digits[..k])
-}
-
-pub fn refusal(out: &mut [u8], at: usize, e: Refusal) -> usize {
-    number(out, at, opus_defines::refusal_number(e))
-}
-
-// A number behind a space.
-pub fn field(out: &mut [u8], at: usize, n: usize) -> usize {
-    let next = put(out, at, b' ');
-    decimal(out, next, n)
-}
-
-pub fn spaced(out: &mut [u8], at: usize, n: u16) -> usize {
-    field(out, at, n as usize)
-}
-
-// Number, rule and place.
-pub fn report(out: &mut [u8], at: usize, r: Report) -> usize {
-    let a = number(out, at, r.number);
-    let b = spaced(out, a, r.rule);
-    spaced(out, b, r.place)
-}
-
-// The first lengths, each behind a space.
-pub fn sizes(out: &mut [u8], at: usize, lengths: &[u16; 48], count: usize) -> usize {
-    let mut next = at;
-    let mut i: usize = 0;
-    while i < 48 {
-        if count <= i {
-            return next;
+impl Output {
+    pub fn new() -> Self
+        ensures { result ≡ [] }
+    {
+        Output {
+            bytes: [0; ROOM],
+            end: 0,
         }
-        next = spaced(out, next, lengths[i]);
-        i += 1;
     }
-    next
+
+    pub fn put(&mut self, b: u8)
+        ensures { Puts self.old self.new (b ∷ []) }
+    {
+        if self.end < ROOM {
+            self.bytes[self.end] = b;
+            self.end += 1;
+        }
+    }
+
+    pub fn text(&mut self, s: &[u8])
+        ensures { Puts self.old self.new s.now }
+    {
+        let n = s.len().min(ROOM - self.end);
+        self.bytes[self.end..self.end + n].copy_from_slice(&s[..n]);
+        self.end += n;
+    }
+
+    // ---- numbers
+
+    pub fn decimal(&mut self, n: usize)
+        ensures { Puts self.old self.new (Text·decimal n) }
+    {
+        self.text(show::decimal_text(n).as_bytes());
+    }
+
+    // A number that a call returned.
+    pub fn number(&mut self, n: i32)
+        ensures { Puts self.old self.new (integer n) }
+    {
+        self.text(show::number_text(n).as_bytes());
+    }
+
+    pub fn refusal(&mut self, e: Refusal)
+        ensures { Puts self.old self.new (integer (refusal_number e)) }
+    {
+        self.number(opus_defines::refusal_number(e));
+    }
+
+    // A number behind a space.
+    pub fn field(&mut self, n: usize)
+        ensures { Puts self.old self.new (field n) }
+    {
+        self.put(b' ');
+        self.decimal(n);
+    }
+
+    // Number, rule and place.
+    pub fn report(&mut self, r: Report)
+        ensures { Puts self.old self.new (report r) }
+    {
+        self.number(r.number);
+        self.field(r.rule as usize);
+        self.field(r.place as usize);
+    }
+
+    // Each behind a space.
+    #[tactic(auto, using(crate::proofs::Items::items_more))]
+    pub fn sizes(&mut self, lengths: &[u16])
+        ensures { Puts self.old self.new (fields lengths.now) }
+    {
+        for n in lengths {
+            self.field(*n as usize);
+        }
+    }
+
+    // ---- buffers
+
+    #[tactic(auto, using(crate::proofs::Items::items_more))]
+    pub fn buffer(&mut self, s: &[u8])
+        ensures { Puts self.old self.new (buffer s.now) }
+    {
+        if s.is_empty() {
+            self.put(b'-');
+        }
+        for b in s {
+            self.put(hex_digit(b / 16));
+            self.put(hex_digit(b % 16));
+        }
+    }
+
+    pub fn number_and_buffer(&mut self, n: i32, s: &[u8])
+        ensures { Puts self.old self.new (integer n ++ 32 ∷ buffer s.now) }
+    {
+        self.number(n);
+        self.put(b' ');
+        self.buffer(s);
+    }
+
+    pub fn report_and_buffer(&mut self, r: Report, s: &[u8])
+        ensures { Puts self.old self.new (report r ++ 32 ∷ buffer s.now) }
+    {
+        self.report(r);
+        self.put(b' ');
+        self.buffer(s);
+    }
+
+    // ---- lines
+
+    // Where a line begins, which `take_back` is given.
+    pub fn mark(&self) -> usize
+        ensures { result ≡ length self.now }
+    {
+        self.end
+    }
+
+    // Takes back what was put behind a mark.
+    pub fn take_back(&mut self, mark: usize)
+        ensures { self.new ≡ take mark self.old }
+    {
+        self.end = self.end.min(mark);
+    }
+
+    // Writes all; a write that fails is told.
+    pub fn flush(&mut self) -> Result<(), WriteFailed>
+        ensures { OnOk result (self.new ≡ []) }
+    {
+        stdio::print(&self.bytes[..self.end])?;
+        self.end = 0;
+        Ok(())
+    }
+
+    // Writes the output where it is nearly full.
+    pub fn flush_full(&mut self) -> Result<(), WriteFailed>
+        ensures { OnOk result (length self.new < FULL) }
+    {
+        if self.end < FULL {
+            return Ok(());
+        }
+        self.flush()
+    }
 }
 
-fn digit(d: u8) -> u8 {
-    if d < 10 {
-        return 48 + d;
-    }
-    if d < 16 {
-        return 87 + d;
-    }
-    63
-}
-
-fn byte_hex(out: &mut [u8], at: usize, b: u8) -> usize {
-    let next = put(out, at, digit(b / 16));
-    put(out, next, digit(b % 16))
-}
-
-fn bytes_hex(out: &mut [u8], at: usize, s: &[u8]) -> usize {
-    let mut next = at;
-    let mut i: usize = 0;
-    while i < s.len() {
-        next = byte_hex(out, next, s[i]);
-        i += 1;
-    }
-    next
-}
-
-// The first n bytes of a buffer.
-pub fn buffer(out: &mut [u8], at: usize, s: &[u8], n: usize) -> usize {
-    if n == 0 {
-        return put(out, at, b'-');
-    }
-    if s.len() < n {
-        return at;
-    }
-    bytes_hex(out, at, &s[0..n])
-}
-
-pub fn number_and_buffer(out: &mut [u8], at: usize, n: i32, s: &[u8], length: usize) -> usize {
-    let a = number(out, at, n);
-    let b = put(out, a, b' ');
-    buffer(out, b, s, length)
-}
-
-pub fn report_and_buffer(out: &mut [u8], at: usize, r: Report, s: &[u8], length: usize) -> usize {
-    let a = report(out, at, r);
-    let b = put(out, a, b' ');
-    buffer(out, b, s, length)
-}
-
-// A write that fails is told.
-pub fn written(out: &[u8], at: usize) -> bool {
-    if at <= out.len() {
-        return stdio::print(&out[0..at]);
-    }
-    true
-}
-
-// Where the output goes on, unless it could not be written.
-#[derive(Clone, Copy)]
-pub enum Flush {
-    To(usize),
-    Failed,
-}
-
-// Writes the output where it is nearly full.
-pub fn flushed(out: &[u8], at: usize) -> Flush {
-    if at < FULL {
-        return Flush::To(at);
-    }
-    if written(out, at) {
-        return Flush::To(0);
-    }
-    Flush::Failed
+fn hex_digit(d: u8) -> u8
+    requires { d < 16 }
+    ensures { result ≡ hex_digit d }
+{
+    if d < 10 { b'0' + d } else { b'a' + (d - 10) }
 }

@@ -2,130 +2,147 @@
 #![tactic(auto)]
 
 use opus::Packet;
-use opus_defines::{Report, Rule, Verdict, rule_number, wide};
-use opus_size::Size;
+use opus_defines::{Refusal, Report, Rule, refusal_report, rule_number};
 use packet_judge::Judged;
-use replay_io::input::{low_16, signed};
-use replay_io::output::{
-    decimal, field, number, number_and_buffer, refusal, report, sizes, spaced, text,
-};
-use replay_io::room::unset;
+use replay_io::output::Output;
+use replay_io::{Malformed, Replay, room};
+use std::io::Read;
 
-// Number, rule and place of an answer; every count is below 65,536.
-fn reported(n: usize, v: Verdict) -> Report {
-    opus_defines::verdict_report(low_16(n), v)
+// The report of a count; every one is below 65,536.
+fn counted(n: usize) -> Report {
+    opus_defines::report_of(Ok((n % 65536) as u16))
 }
 
 // ---- kinds 1 and 11: the packet reader
 
-// What stands behind the number of an answer.
-fn three_numbers(out: &mut [u8], at: usize, p: Packet) -> usize {
-    let a = field(out, at, p.toc as usize);
-    let b = field(out, a, p.first);
-    field(out, b, p.taken)
+fn read_packet<R: Read + Drop>(case: &mut Replay<R>) -> Result<Result<Packet, Refusal>, Malformed> {
+    let self_delimited = case.input.flag()?;
+    let packet = case.input.bytes(&mut case.work)?;
+    Ok(opus::opus_packet_parse_impl(packet, self_delimited))
 }
 
-fn packet(out: &mut [u8], at: usize, p: Packet) -> usize {
-    let v = p.verdict;
-    let Verdict::Refused(e) = v else {
-        let count = decimal(out, at, p.count);
-        let next = three_numbers(out, count, p);
-        let lengths = p.lengths;
-        return sizes(out, next, &lengths, p.count);
-    };
-    refusal(out, at, e)
-}
-
-// An answer with rule and place, all of its fields also where it is a refusal.
-fn whole_packet(out: &mut [u8], at: usize, p: Packet) -> usize {
-    let v = p.verdict;
-    let a = report(out, at, reported(p.count, v));
-    let b = three_numbers(out, a, p);
+// What stands behind the number of a packet; of the lengths the first `count`.
+fn packet_fields(out: &mut Output, p: Packet, count: usize) {
+    out.field(p.toc as usize);
+    out.field(p.first);
+    out.field(p.taken);
     let lengths = p.lengths;
-    sizes(out, b, &lengths, 48)
+    out.sizes(&lengths[..count.min(48)]);
 }
 
-// ---- kinds 8 and 12: the length reader
-
-fn size(out: &mut [u8], at: usize, s: Size) -> usize {
-    let v = s.verdict;
-    let Verdict::Refused(e) = v else {
-        let next = decimal(out, at, s.bytes);
-        return spaced(out, next, s.size);
-    };
-    refusal(out, at, e)
-}
-
-fn whole_size(out: &mut [u8], at: usize, s: Size) -> usize {
-    let v = s.verdict;
-    let next = report(out, at, reported(s.bytes, v));
-    spaced(out, next, s.size)
-}
-
-// ---- kind 24: the judge
-
-fn unreadable(out: &mut [u8], at: usize, rule: Rule, place: usize) -> usize {
-    let a = text(out, at, b"unreadable");
-    let b = field(out, a, wide(rule_number(rule)));
-    field(out, b, place)
-}
-
-fn longer(out: &mut [u8], at: usize, least: usize) -> usize {
-    let a = text(out, at, b"longer");
-    field(out, a, least)
-}
-
-fn verdict(out: &mut [u8], at: usize, j: Judged) -> usize {
-    match j {
-        Judged::Refused(e) => refusal(out, at, e),
-        Judged::Unreadable(rule, place) => unreadable(out, at, rule, place),
-        Judged::Dirty => text(out, at, b"dirty"),
-        Judged::Longer(least) => longer(out, at, least),
-        Judged::Clean => text(out, at, b"clean"),
+// The same behind a refusal: zeros.
+fn no_packet_fields(out: &mut Output) {
+    for _ in 0..3 {
+        out.field(0);
     }
+    out.sizes(&[0; 48]);
+}
+
+pub fn packet<R: Read + Drop>(case: &mut Replay<R>) -> Result<(), Malformed> {
+    match read_packet(case)? {
+        Ok(p) => {
+            case.out.decimal(p.count);
+            packet_fields(&mut case.out, p, p.count);
+        }
+        Err(e) => case.out.refusal(e),
+    }
+    Ok(())
+}
+
+// With rule and place, and all of the fields also where it is a refusal.
+pub fn packet_with_place<R: Read + Drop>(case: &mut Replay<R>) -> Result<(), Malformed> {
+    match read_packet(case)? {
+        Ok(p) => {
+            case.out.report(counted(p.count));
+            packet_fields(&mut case.out, p, 48);
+        }
+        Err(e) => {
+            case.out.report(refusal_report(e));
+            no_packet_fields(&mut case.out);
+        }
+    }
+    Ok(())
 }
 
 // ---- kind 7: the length writer
 
-fn encode(work: &mut [u8], size: usize, room: usize) -> i32 {
-    if work.len() < room {
-        return 0;
-    }
-    opus_size::encode_size(signed(size), &mut work[0..room])
+pub fn write_size<R: Read + Drop>(case: &mut Replay<R>) -> Result<(), Malformed> {
+    let size = case.input.i32()?;
+    let n = case.input.u8()?;
+    let lent = room(&mut case.work, n as usize);
+    let answer = opus_size::encode_size(size, lent);
+    case.out.number_and_buffer(answer, lent);
+    Ok(())
 }
 
-fn encoded(out: &mut [u8], at: usize, work: &mut [u8], size: usize, room: usize) -> usize {
-    unset(work, room);
-    let r = encode(work, size, room);
-    number_and_buffer(out, at, r, work, room)
+// ---- kinds 8 and 12: the length reader
+
+pub fn size<R: Read + Drop>(case: &mut Replay<R>) -> Result<(), Malformed> {
+    let bytes = case.input.bytes(&mut case.work)?;
+    match opus_size::parse_size(bytes, 4) {
+        Ok(s) => {
+            case.out.decimal(s.bytes);
+            case.out.field(s.size as usize);
+        }
+        Err(e) => case.out.refusal(e),
+    }
+    Ok(())
 }
 
-// ---- each kind
-
-// The line of a kind that reads bytes; x is the number before them.
-fn read(kind: usize, out: &mut [u8], at: usize, data: &[u8], x: usize) -> usize {
-    match kind {
-        1 => packet(out, at, opus::opus_packet_parse_impl(data, x != 0)),
-        8 => size(out, at, opus_size::parse_size(data, 4)),
-        9 => number(out, at, opus_toc::opus_packet_get_nb_frames(data)),
-        10 => number(
-            out,
-            at,
-            opus_toc::opus_packet_get_samples_per_frame(data, signed(x)),
-        ),
-        11 => whole_packet(out, at, opus::opus_packet_parse_impl(data, x != 0)),
-        12 => whole_size(out, at, opus_size::parse_size(data, low_16(x))),
-        _ => verdict(out, at, packet_judge::judge_packet(data, x != 0)),
+// Told which rule asks for the length.
+pub fn size_with_place<R: Read + Drop>(case: &mut Replay<R>) -> Result<(), Malformed> {
+    let rule = case.input.u8()?;
+    let bytes = case.input.bytes(&mut case.work)?;
+    match opus_size::parse_size(bytes, rule as u16) {
+        Ok(s) => {
+            case.out.report(counted(s.bytes));
+            case.out.field(s.size as usize);
+        }
+        Err(e) => {
+            case.out.report(refusal_report(e));
+            case.out.field(0);
+        }
     }
+    Ok(())
 }
 
-pub fn line(kind: usize, ns: &[usize; 10], work: &mut [u8], out: &mut [u8], at: usize) -> usize {
-    if kind == 7 {
-        return encoded(out, at, work, ns[0], ns[1]);
+// ---- kinds 9 and 10: the TOC byte
+
+pub fn frame_count<R: Read + Drop>(case: &mut Replay<R>) -> Result<(), Malformed> {
+    let packet = case.input.bytes(&mut case.work)?;
+    case.out.number(opus_toc::opus_packet_get_nb_frames(packet));
+    Ok(())
+}
+
+pub fn samples_per_frame<R: Read + Drop>(case: &mut Replay<R>) -> Result<(), Malformed> {
+    let rate = case.input.i32()?;
+    let packet = case.input.bytes(&mut case.work)?;
+    case.out
+        .number(opus_toc::opus_packet_get_samples_per_frame(packet, rate));
+    Ok(())
+}
+
+// ---- kind 24: the judge
+
+fn unreadable(out: &mut Output, rule: Rule, place: usize) {
+    out.text(b"unreadable");
+    out.field(rule_number(rule) as usize);
+    out.field(place);
+}
+
+pub fn verdict<R: Read + Drop>(case: &mut Replay<R>) -> Result<(), Malformed> {
+    let self_delimited = case.input.flag()?;
+    let packet = case.input.bytes(&mut case.work)?;
+    let out = &mut case.out;
+    match packet_judge::judge_packet(packet, self_delimited) {
+        Judged::Refused(e) => out.refusal(e),
+        Judged::Unreadable(rule, place) => unreadable(out, rule, place),
+        Judged::Dirty => out.text(b"dirty"),
+        Judged::Longer(least) => {
+            out.text(b"longer");
+            out.field(least);
+        }
+        Judged::Clean => out.text(b"clean"),
     }
-    let n = ns[1];
-    if work.len() < n {
-        return at;
-    }
-    read(kind, out, at, &work[0..n], ns[0])
+    Ok(())
 }

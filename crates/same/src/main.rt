@@ -2,7 +2,7 @@
 // behind another and nothing else. It says so in one line, the last word of which is `end`; where they differ, how many records were the same.
 #![tactic(auto)]
 
-ghost use Rattle.std.specs.Prelude.{◌≡◌, ◌≤◌, length};
+ghost use Rattle.std.specs.Prelude.{◌≡◌, ◌≤◌, length, IfOk};
 ghost use Rattle.capture.specs.Reading.{records_of};
 ghost use Rattle.same.specs.Looking.{Looked};
 
@@ -32,72 +32,78 @@ impl Read for Absent {
     }
 }
 
-// How a part of the original was found in the new file: whether that could be read, whether all of it is the same, the records that are, and the bytes of the
-// new file that are held and not yet looked at.
+// Why the two were not compared to their ends: a read of standard input failed when so many bytes had come, or one of the new file, or more bytes came than
+// are counted.
+#[derive(Clone, Copy)]
+enum Failure {
+    Read(usize),
+    ReadNew,
+    TooLong,
+}
+
+// Whether the new file says what the original says, and how many records are the same.
+#[derive(Clone, Copy)]
+enum Comparison {
+    Same(usize),
+    Differs(usize),
+}
+
+// How a part of the original was found in the new file: whether all of it is the same, the records that are, and the bytes of the new file that are held and
+// not yet looked at.
 #[derive(Clone, Copy)]
 struct Match {
-    ok: bool,
     same: bool,
     records: usize,
     held: usize,
 }
 
 // A part is never shorter than the records that are written for it, so that a full buffer, or all that is left, has them.
-fn find_part<R: Read>(file: &mut R, data: &[u8], new: &mut [u8], held: usize) -> Match
+fn find_part<R: Read>(
+    file: &mut R,
+    data: &[u8],
+    new: &mut [u8],
+    held: usize,
+) -> Result<Match, Failure>
     requires { held ≤ length new.old }
     ensures length { length new.new ≡ length new.old }
-    ensures seen { Looked (records_of «data».now) new.new result }
-    ensures few { (result.held ≤ length new.old) × (result.records ≤ length «data».now) }
+    ensures seen { IfOk result (λ m. Looked (records_of «data».now) new.new m) }
+    ensures few { IfOk result (λ m. (m.held ≤ length new.old) × (m.records ≤ length «data».now)) }
 {
-    let input = stdio::read_on(file, new, held);
-    let ok = input.ok;
-    let n = input.bytes;
+    let Ok(n) = stdio::read_on(file, new, held) else {
+        return Err(Failure::ReadNew);
+    };
     let s = sameness::same_records(data, &new[..n]);
-    let same = s.all;
-    let records = s.records;
     let left = capture_parts::keep_rest(new, n, s.bytes);
-    Match {
-        ok,
-        same,
-        records,
+    Ok(Match {
+        same: s.all,
+        records: s.records,
         held: left,
-    }
-}
-
-fn new_failed() {
-    io::write_all(STDERR_FILENO, b"aveluafi: reading the new file failed\n");
-}
-
-fn too_long() {
-    io::write_all(STDERR_FILENO, b"aveluafi: standard input is too long\n");
-}
-
-fn differs(records: usize) {
-    show::text(b"differs record ");
-    show::decimal(records);
-    show::text(b"\n");
+    })
 }
 
 // At the end of the original the new file has no byte left.
-fn at_end<R: Read>(file: &mut R, new: &mut [u8], held: usize, records: usize)
+fn at_end<R: Read>(
+    file: &mut R,
+    new: &mut [u8],
+    held: usize,
+    records: usize,
+) -> Result<Comparison, Failure>
     requires { held ≤ length new.old }
     ensures length { length new.new ≡ length new.old }
 {
-    let input = stdio::read_on(file, new, held);
-    if !input.ok {
-        new_failed();
-        return;
+    match stdio::read_on(file, new, held) {
+        Ok(0) => Ok(Comparison::Same(records)),
+        Ok(_) => Ok(Comparison::Differs(records)),
+        Err(_) => Err(Failure::ReadNew),
     }
-    if input.bytes != 0 {
-        differs(records);
-        return;
-    }
-    show::text(b"same records ");
-    show::decimal(records);
-    show::text(b" end\n");
 }
 
-fn compare<R: Read>(from: &mut Stdin, file: &mut R, buf: &mut [u8], new: &mut [u8])
+fn compare<R: Read>(
+    from: &mut Stdin,
+    file: &mut R,
+    buf: &mut [u8],
+    new: &mut [u8],
+) -> Result<Comparison, Failure>
     requires { length buf.old ≡ 262144 }
 {
     let mut records: usize = 0;
@@ -105,32 +111,44 @@ fn compare<R: Read>(from: &mut Stdin, file: &mut R, buf: &mut [u8], new: &mut [u
     let mut held: usize = 0;
     let mut left: usize = 0;
     while done < MOST {
-        let p = capture_parts::read_part(from, buf, held);
+        let p = match capture_parts::read_part(from, buf, held) {
+            Ok(part) => part,
+            Err(failed) => return Err(Failure::Read(done + failed.held)),
+        };
         let n = p.bytes;
-        let there = p.held;
-        if !p.ok {
-            stdio::tell_read_failed(done + there);
-            return;
-        }
-        let m = find_part(file, &buf[..n], new, left);
+        let m = find_part(file, &buf[..n], new, left)?;
         left = m.held;
-        if !m.ok {
-            new_failed();
-            return;
-        }
         records += m.records;
         if !m.same {
-            differs(records);
-            return;
+            return Ok(Comparison::Differs(records));
         }
         if p.last {
-            at_end(file, new, left, records);
-            return;
+            return at_end(file, new, left, records);
         }
         done += n;
-        held = capture_parts::keep_rest(buf, there, n);
+        held = capture_parts::keep_rest(buf, p.held, n);
     }
-    too_long();
+    Err(Failure::TooLong)
+}
+
+fn report(outcome: Result<Comparison, Failure>) {
+    match outcome {
+        Ok(Comparison::Same(records)) => {
+            show::text(b"same records ");
+            show::decimal(records);
+            show::text(b" end\n");
+        }
+        Ok(Comparison::Differs(records)) => {
+            show::text(b"differs record ");
+            show::decimal(records);
+            show::text(b"\n");
+        }
+        Err(Failure::Read(came)) => stdio::tell_read_failed(came),
+        Err(Failure::ReadNew) => {
+            io::write_all(STDERR_FILENO, b"aveluafi: reading the new file failed\n");
+        }
+        Err(Failure::TooLong) => stdio::tell_too_long(),
+    }
 }
 
 // Standard input is closed where a read of no bytes fails for want of a descriptor. Then nothing is opened, since a file that is would be read in its place.
@@ -146,11 +164,10 @@ fn main(rt: HostRuntime) {
     let mut new = [0u8; ROOM];
     let mut from = rt.stdin();
     if is_open(&mut from) {
-        if let Ok(file) = File::open(&rt, NEW_FILE) {
-            let mut file = file;
-            compare(&mut from, &mut file, &mut buf, &mut new);
+        if let Ok(mut file) = File::open(&rt, NEW_FILE) {
+            report(compare(&mut from, &mut file, &mut buf, &mut new));
             return;
         }
     }
-    compare(&mut from, &mut Absent, &mut buf, &mut new);
+    report(compare(&mut from, &mut Absent, &mut buf, &mut new));
 }

@@ -15,7 +15,7 @@ use Rattle.laws.specs.Bytes.{Bytes}
 use Rattle.laws.proofs.Never.{never}
 use Rattle.opus_defines.specs.declared.Refusal.{Refusal}
 use Rattle.opus_defines.specs.declared.Rule.{Rule}
-use Rattle.opus_defines.specs.declared.Verdict.TheVariants.{Accepted, Refused}
+use Rattle.std.specs.Prelude.{Err, Ok}
 use Rattle.opus_size.specs.Size.{most_bytes}
 use Rattle.opus_toc.specs.Toc.{upper_six}
 use Rattle.opus_format.specs.Frames.{lengths, joined, cut, total, longest}
@@ -23,10 +23,9 @@ use Rattle.opus_format.specs.Reading.{Reading, refused, accepted, read}
 use Rattle.opus_format.proofs.Frames.{joined-cut, lengths-cut}
 use Rattle.opus_format.proofs.Lengths.{cut-front}
 use Rattle.opus_format.proofs.Facts.{facts}
-use Rattle.opus.specs.Answers.{parsed, answer_of}
+use Rattle.opus.specs.Answers.{parsed, packet_with}
 use Rattle.opus.specs.declared.PacketHead.{PacketHead}
 use Rattle.opus.proofs.Parsed.{parsed_accepted, parsed_refused}
-use Rattle.opus.proofs.Lent.{packet_with, lent_accepted}
 use Rattle.opus_header.specs.Sums.{sums_of}
 use Rattle.opus_header.specs.declared.Sums.{Sums}
 use Rattle.opus_header.proofs.Forms.{sums_total}
@@ -52,15 +51,14 @@ pub record Taken (p : List ℕ) (h : PacketHead) (l : List ℕ) : Type 0 where
   pub block : h.first + total (take h.count l) ≤ length p
   pub means : read false p ≡ accepted h.toc (take h.count l) h.first h.taken
 
-module _ (p : List ℕ) (h : PacketHead) (l : List ℕ) (e : answer_of h l ≡ parsed false p) where
-  pub taken : Bytes p → h.verdict ≡ Accepted → Taken p h l
-  taken bytes v =
-      let d = parsed_accepted false p (packet_with h l) (lent_accepted false p h l e v) v in
-      let f = facts false p h.toc (take h.count l) h.first h.taken bytes d.means in
-      record { inside = d.inside; some = (f.some, f.few, f.small); block = omega (arith, f.block, f.within); means = d.means }
+pub taken : (p : List ℕ) (h : PacketHead) (l : List ℕ) → Ok (packet_with h l) ≡ parsed false p → Bytes p → Taken p h l
+taken p h l e bytes =
+    let d = parsed_accepted false p (packet_with h l) e in
+    let f = facts false p h.toc (take h.count l) h.first h.taken bytes d.means in
+    record { inside = d.inside; some = (f.some, f.few, f.small); block = omega (arith, f.block, f.within); means = d.means }
 
-  pub unread : length p ≤ 65535 → {c : Refusal} → h.verdict ≡ Refused c → (rule : Rule) × (place : ℕ) × (read false p ≡ refused rule place)
-  unread short {c} v = let r = parsed_refused false p (answer_of h l) e c v short in (r.0, r.1, r.3)
+pub unread : (p : List ℕ) {c : Refusal} → Err c ≡ parsed false p → length p ≤ 65535 → (rule : Rule) × (place : ℕ) × (read false p ≡ refused rule place)
+unread p {c} e short = let r = parsed_refused false p c e short in (r.0, r.1, r.3)
 
 -- frames, off their block alone
 cut_block : (ns s : List ℕ) → total ns ≤ length s → cut ns (take (total ns) s) ≡ cut ns s

@@ -2,13 +2,12 @@
 // very bytes, where a packet cannot be read (beyond document 02). Nothing here writes a packet: it is a second look, at what compaction wrote.
 #![tactic(auto)]
 
-ghost use Rattle.std.specs.Prelude.{◌≡◌, length, take, ℕ, ◌≤◌, max, true};
+ghost use Rattle.std.specs.Prelude.{◌≡◌, length, take, ℕ, ◌≤◌, true};
 ghost use Rattle.capture.specs.Reading.{records_of};
 ghost use Rattle.compaction.specs.Lossless.{Same};
 ghost use Rattle.sameness.specs.Sameness.{Tells, Begins};
 
 use capture::HEAD_BYTES;
-use opus_defines::Verdict;
 
 // What was seen of a part: whether all its records were found the same, how many were, and the bytes of the new file that these take.
 #[derive(Clone, Copy)]
@@ -18,50 +17,18 @@ pub struct Seen {
     pub bytes: usize,
 }
 
-// 0 where two bytes are the same, else 1.
-fn unlike(a: u8, b: u8) -> u8
-    ensures { (result ≡ 0 → a ≡ b) × (a ≡ b → result ≡ 0) }
-{
-    if a == b { 0 } else { 1 }
-}
-
-fn larger(a: u8, b: u8) -> u8
-    ensures { result ≡ max a b }
-{
-    if a < b { b } else { a }
-}
-
-// Whether two runs of bytes are the same. No test leaves the loop, so that sixteen bytes or more are taken at a time.
+// Whether two runs of bytes are the same.
 fn equal_bytes(a: &[u8], b: &[u8]) -> bool
     ensures { Tells result (a.now ≡ b.now) }
 {
-    if a.len() != b.len() {
-        return false;
-    }
-    let mut most: u8 = 0;
-    let mut i: usize = 0;
-    while i < a.len() {
-        most = larger(most, unlike(a[i], b[i]));
-        i += 1;
-    }
-    most == 0
+    a == b
 }
 
 // Whether two lists of lengths are the same.
 fn equal_lengths(ns: &[u16], ms: &[u16]) -> bool
     ensures { Tells result (ns.now ≡ ms.now) }
 {
-    if ns.len() != ms.len() {
-        return false;
-    }
-    let mut i: usize = 0;
-    while i < ns.len() {
-        if ns[i] != ms[i] {
-            return false;
-        }
-        i += 1;
-    }
-    true
+    ns == ms
 }
 
 // Whether two packets that are not the same bytes say the same: both must be read, and have the same frames and upper six TOC bits.
@@ -72,14 +39,12 @@ fn same_frames(p: &[u8], q: &[u8]) -> bool
 {
     let mut ns = [0u16; 48];
     let mut ms = [0u16; 48];
-    let a = opus::read_into(p, false, &mut ns);
-    let b = opus::read_into(q, false, &mut ms);
-    let v = a.verdict;
-    let Verdict::Accepted = v else {
+    let first = opus::read_into(p, false, &mut ns);
+    let second = opus::read_into(q, false, &mut ms);
+    let Ok(a) = first else {
         return false;
     };
-    let w = b.verdict;
-    let Verdict::Accepted = w else {
+    let Ok(b) = second else {
         return false;
     };
     if a.toc / 4 != b.toc / 4 {

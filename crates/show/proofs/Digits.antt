@@ -1,7 +1,7 @@
 -- A number's digits: `decimal` has the fewest, as io's `decimal` promises, and a number below 10 ^ m has at most m.
---     decimal_room, decimal_laid     what io's `decimal` writes, put as text
+--     decimal_is                     what io's `decimal` writes
+--     decimal_room, decimal_laid     the same, put as text
 --     decimal_most                   how long it is
---     text_room, text_put            a number at the front of twenty bytes
 -- Assumes nothing.
 use Prim.Native.Nat.{ℕ, zero, suc, ◌+◌, ◌*◌, ◌-◌, ◌/◌, ◌%◌, ◌^◌, ◌≤◌, ◌<◌}
 use native.Mathlib.Nat.{pow-suc, one-le-pow}
@@ -11,13 +11,11 @@ use mathlib.Core.Path.{◌≡◌, refl, ap}
 use mathlib.Core.List.{List, [], ◌∷◌}
 use lib.Dec.{ltb}
 use lib.ListN.{length, take, length-append}
-use lib.Seq.{sets}
 use borrow.Author.Tests.{ltb-true, ltb-false}
 use Rattle.laws.proofs.Never.{by_test}
-use Rattle.io.specs.Counts.{IsPrefixLen}
 use Rattle.io.specs.Digits.{hex_digit_ascii, last_digits, IsDigitCount}
 use Rattle.show.specs.Text.{places, decimal}
-use Rattle.show.proofs.Laid.{Laid, front_counts}
+use Rattle.show.proofs.Laid.{Laid}
 
 digits_length : (b k n : ℕ) → length (last_digits b k n) ≡ k
 digits_length b zero n = refl
@@ -55,7 +53,7 @@ places_are (suc most) n k h f =
 
 -- t is the buffer that io's `decimal` wrote k digits into
 module _ (t : List ℕ) (k n : ℕ) (f : IsDigitCount 10 1 n k) (e : take k t ≡ last_digits 10 k n) where
-  decimal_is : take k t ≡ decimal n
+  pub decimal_is : take k t ≡ decimal n
   unfolding decimal
   decimal_is = rw (places_are n n k (omega arith) f) e
 
@@ -79,17 +77,3 @@ places_most (suc most) n m h =
 pub decimal_most : (n m : ℕ) → n < 10 ^ suc m → length (decimal n) ≤ suc m
 unfolding decimal
 decimal_most n m h = omega (arith, digits_length 10 (places n n) n, places_most n n m h)
-
--- ---- a number at the front of twenty bytes
-module _ (l : List ℕ) (n : ℕ) (small : n < 2 ^ 64) (room : length l ≡ 20) where
-  most : length (decimal n) ≤ 20
-  most = decimal_most n 19 (omega arith)
-
-  pub text_room : 0 + length (decimal n) ≤ length l
-  text_room = omega (arith, most)
-
-  pub text_put : {d : List ℕ} {k : ℕ} → d ≡ sets l 0 (decimal n) → k ≡ 0 + length (decimal n)
-      → (d ≡ sets l 0 (decimal n)) × ((k ≡ length (decimal n)) × IsPrefixLen k d)
-  text_put {d} {k} a b =
-      let b' : k ≡ length (decimal n) = omega arith in
-      (a, (b', rw (a, b') (front_counts l (decimal n) (omega (arith, most)))))

@@ -1,4 +1,5 @@
 pub mod Laid
+pub mod Built
 pub mod Digits
 pub mod Signed
 pub mod Refusals

@@ -1,24 +1,20 @@
 -- A signed number's digits. A negative x = -(n + 1) is turned by -1 - x to n.
 -- Assumes nothing.
 use Prim.Native.Nat.{ℕ, suc, ◌+◌, ◌^◌, ◌≤◌, ◌<◌}
-use native.Mathlib.Nat.{zero-add}
 use native.Mathlib.Omega.{arith}
 use mathlib.Core.Path.{◌≡◌, ap}
-use mathlib.Core.List.{List, [], ◌∷◌, ◌++◌}
+use mathlib.Core.List.{[], ◌∷◌, ◌++◌}
 use mathlib.Core.Bool.{true, false}
 use lib.Dec.{T}
 use lib.IntN.{ℤ, pos, negsuc, nat_abs, ◌-ℤ◌}
 use lib.ListN.{length}
-use lib.Seq.{sets}
 use lib.Signed.{lt_z, non_neg}
 use mir.Syntax.{w32, w64}
 use mir.Val.{to_z, of_z, Fits, SFits}
 use mir.ValLaws.{to_z-of_z, to_z_pos}
 use borrow.Author.Tests.{le-ltb}
-use Rattle.io.specs.Counts.{IsPrefixLen}
 use Rattle.laws.proofs.Signed.{is_negative, usize_is}
 use Rattle.show.specs.Text.{decimal, integer}
-use Rattle.show.proofs.Laid.{front_counts}
 use Rattle.show.proofs.Digits.{decimal_most}
 
 -- -1 - x, as the code makes it
@@ -73,15 +69,3 @@ pub integer_most : (x : ℤ) → SFits w32 x → length (integer x) ≤ 11
 unfolding integer
 integer_most (pos n) f = omega (arith, decimal_most n 9 (omega (arith, f.sfits)))
 integer_most (negsuc n) f = omega (arith, decimal_most (suc n) 9 (omega (arith, f.sfits)))
-
--- which is put at the front of eleven bytes; a call is passed the bits of the number
-module _ (l : List ℕ) (x : ℤ) (f : SFits w32 x) (room : length l ≡ 11) where
-  pub text_room : 0 + length (integer (to_z w32 (of_z w32 x))) ≤ length l
-  text_room = rw (to_z-of_z w32 x f) (omega (arith, integer_most x f))
-
-  pub text_put : {d : List ℕ} {n : ℕ} → d ≡ sets l 0 (integer (to_z w32 (of_z w32 x))) → n ≡ 0 + length (integer (to_z w32 (of_z w32 x)))
-      → (d ≡ sets l 0 (integer x)) × ((n ≡ length (integer x)) × IsPrefixLen n d)
-  text_put a b =
-      let a' = rw (to_z-of_z w32 x f) at a in
-      let b' = rw (to_z-of_z w32 x f, zero-add) at b in
-      (a', (b', rw (a', b') (front_counts l (integer x) (omega (arith, integer_most x f)))))

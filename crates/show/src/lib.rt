@@ -1,10 +1,13 @@
-// Text and numbers for the programs: written to standard output, and put into a buffer by functions that are proved to the byte.
+// Text and numbers for the programs: built up in a buffer, which is proved to the byte, and written to standard output.
 #![tactic(auto)]
 
 ghost use Rattle.std.specs.Prelude.{◌≡◌, ◌++◌, ◌+◌, ◌≤◌, nat_abs, length};
 ghost use Rattle.std.proofs.lemmas.List.Edits.{sets};
-ghost use Rattle.io.specs.Counts.{IsPrefixLen};
 ghost use Rattle.show.specs.Text.{decimal as Text·decimal, integer, number_line, refusal};
+
+pub use text_buf::TextBuf;
+
+mod text_buf;
 
 // The descriptors of standard output and of standard error.
 pub const STDOUT_FILENO: i32 = 1;
@@ -16,9 +19,25 @@ pub fn text(s: &[u8]) {
 }
 
 pub fn decimal(n: usize) {
-    let mut out = [0u8; 20];
-    let k = decimal_text(&mut out, n);
-    text(&out[..k]);
+    text(decimal_text(n).as_bytes());
+}
+
+// A number: at most twenty digits.
+pub fn decimal_text(n: usize) -> TextBuf<20>
+    ensures { result ≡ Text·decimal n }
+{
+    let mut digits = TextBuf::new();
+    digits.put_decimal(n);
+    digits
+}
+
+// A signed number: at most a sign and ten digits.
+pub fn number_text(x: i32) -> TextBuf<11>
+    ensures { result ≡ integer x }
+{
+    let mut digits = TextBuf::new();
+    digits.put_number(x);
+    digits
 }
 
 // ---- put into a buffer at a place; the answer is the place behind
@@ -62,15 +81,6 @@ pub fn put_line(out: &mut [u8], at: usize, label: &[u8], n: usize) -> usize
     put_text(out, next, b"\n")
 }
 
-// A number at the front of `out`: at most twenty digits.
-pub fn decimal_text(out: &mut [u8; 20], n: usize) -> usize
-    ensures bytes { out.new ≡ sets out.old 0 (Text·decimal n) }
-    ensures next { result ≡ length (Text·decimal n) }
-    ensures within { IsPrefixLen result out.new }
-{
-    put_decimal(out, 0, n)
-}
-
 fn magnitude(x: i32) -> usize
     ensures { result ≡ nat_abs x }
 {
@@ -90,15 +100,6 @@ pub fn put_number(out: &mut [u8], at: usize, x: i32) -> usize
         return put_decimal(out, next, magnitude(x));
     }
     put_decimal(out, at, magnitude(x))
-}
-
-// A number at the front of `out`: at most a sign and ten digits.
-pub fn number_text(out: &mut [u8; 11], x: i32) -> usize
-    ensures bytes { out.new ≡ sets out.old 0 (integer x) }
-    ensures next { result ≡ length (integer x) }
-    ensures within { IsPrefixLen result out.new }
-{
-    put_number(out, 0, x)
 }
 
 // The line for what is refused, at the front of `out`.

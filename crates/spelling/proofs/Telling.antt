@@ -18,15 +18,13 @@ use Rattle.blocks.proofs.Sets.{take-sets}
 use Rattle.opus_defines.specs.Rules.{rule_refusal}
 use Rattle.opus_defines.specs.Outcome.{written}
 use Rattle.opus_defines.specs.declared.Refusal.{Refusal}
-use Rattle.opus_defines.specs.declared.Verdict.TheVariants.{Accepted, Refused}
+use Rattle.std.specs.Prelude.{Err, Ok}
 use Rattle.opus_size.specs.Size.{most_bytes}
 use Rattle.opus_toc.specs.Toc.{upper_six}
 use Rattle.opus_format.specs.Frames.{cut, total, longest}
-use Rattle.opus.specs.Answers.{parsed, answer_of}
+use Rattle.opus.specs.Answers.{parsed}
 use Rattle.opus.specs.declared.Packet.{Packet}
-use Rattle.opus.specs.declared.PacketHead.{PacketHead}
 use Rattle.opus.proofs.Parsed.{lengths_of, parsed_accepted, parsed_refused}
-use Rattle.opus.proofs.Lent.{packet_with, lent_accepted}
 use Rattle.opus_header.specs.Compact.{compact}
 use Rattle.padding.proofs.Looked.{framed}
 use Rattle.spelling.specs.Spelling.{spelling_of, spelling, compact_of, shorter, work_after}
@@ -36,16 +34,13 @@ use Rattle.packet_pad.proofs.Unpadding.{unpad_unread, unpad_taken}
 use Rattle.spelling.proofs.Choice.{long_original, unread_original, written_is, compact-written, compact-told, handed_compact}
 
 -- ---- the reader's answer
-module _ (p : List ℕ) (room : ℕ) (h : PacketHead) (l : List ℕ) (e : answer_of h l ≡ parsed false p) where
-  pub refused_told : {c : Refusal} → h.verdict ≡ Refused c → Original ≡ spelling p room
-  refused_told {c} v =
-      by_test (ltb 65535 (length p)) (λ t. sym (long_original p room (ltb-true 65535 (length p) t)))
-      (λ t. let r = parsed_refused false p (answer_of h l) e c v (ltb-false 65535 (length p) t) in
-      sym (unread_original p room (rule_refusal r.0 r.1) (unpad_unread p r.0 r.1 r.3)))
+pub refused_told : (p : List ℕ) (room : ℕ) {c : Refusal} → Err c ≡ parsed false p → Original ≡ spelling p room
+refused_told p room {c} e =
+    by_test (ltb 65535 (length p)) (λ t. sym (long_original p room (ltb-true 65535 (length p) t)))
+    (λ t. let r = parsed_refused false p c e (ltb-false 65535 (length p) t) in
+    sym (unread_original p room (rule_refusal r.0 r.1) (unpad_unread p r.0 r.1 r.3)))
 
-  abbrev answer : Packet
-  answer = packet_with h l
-
+module _ (p : List ℕ) (room : ℕ) (answer : Packet) (e : Ok answer ≡ parsed false p) where
   -- the compact packet of what was read
   abbrev rebuilt : List ℕ
   rebuilt = compact false (upper_six answer.toc) (cut (lengths_of answer) (drop answer.first p))
@@ -57,10 +52,10 @@ module _ (p : List ℕ) (room : ℕ) (h : PacketHead) (l : List ℕ) (e : answer
     pub goes_by : (w : List ℕ) {w' : List ℕ} {s : Spelling} → s ≡ spelling_of p room (written rebuilt) → w' ≡ work_after rebuilt w s
         → (s ≡ spelling p room) × (w' ≡ work_after (compact_of p) w s)
 
-  pub readable : Bytes p → h.verdict ≡ Accepted → Readable
-  readable bytes v =
-      let f = framed false p h l e bytes v in
-      let d = parsed_accepted false p answer (lent_accepted false p h l e v) v in
+  pub readable : Bytes p → Readable
+  readable bytes =
+      let f = framed false p answer e bytes in
+      let d = parsed_accepted false p answer e in
       let u = unpad_taken p answer.toc (lengths_of answer) answer.first answer.taken d.means in
       record {
         inside = f.inside;

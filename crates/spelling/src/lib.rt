@@ -10,7 +10,7 @@ ghost use Rattle.opus_defines.specs.Outcome.{written};
 ghost use Rattle.opus_header.specs.Compact.{compact};
 ghost use Rattle.spelling.specs.Spelling.{spelling_of, spelling, compact_of, shorter as Spelling·shorter, work_after};
 
-use opus_defines::{Verdict, wide_byte};
+use opus_defines::wide_byte;
 
 // Which spelling is taken: the packet's own, or the compact one, of so many bytes.
 #[derive(Clone, Copy)]
@@ -51,14 +51,10 @@ pub fn spell(packet: &[u8], work: &mut [u8]) -> Spelling
     ensures bytes { work.new ≡ work_after (compact_of packet.now) work.old result }
 {
     let mut lengths = [0u16; 48];
-    let p = opus::read_into(packet, false, &mut lengths);
-    let v = p.verdict;
-    let Verdict::Refused(_) = v else {
-        let n = p.count;
-        let first = p.first;
-        return spell_frames(packet, work, p.toc, &lengths[..n], first);
-    };
-    Spelling::Original
+    match opus::read_into(packet, false, &mut lengths) {
+        Ok(p) => spell_frames(packet, work, p.toc, &lengths[..p.count], p.first),
+        Err(_) => Spelling::Original,
+    }
 }
 
 // The chooser: the packet in its shorter spelling, as a part of `work` or the packet itself.

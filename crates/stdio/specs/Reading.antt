@@ -1,14 +1,13 @@
 -- What a read into a buffer may give.
-use Rattle.std.specs.Prelude.{ℕ, ◌+◌, ◌≤◌}
-use Rattle.stdio.specs.declared.Got.{Got}
-use Rattle.stdio.specs.declared.Got.TheVariants.{Bytes, End, Failed}
+use Rattle.std.specs.Prelude.{ℕ, ◌+◌, ◌≤◌, ◌≡◌, Result, Ok, Err}
+use Rattle.stdio.specs.declared.ReadFailed.{ReadFailed}
 
--- bytes behind those that are held, one at least, and within the buffer
-pub record Behind (room held n : ℕ) : Type 0 where
-  pub some : 1 ≤ n
-  pub within : held + n ≤ room
+-- bytes behind those that are held, within the buffer, or none at the end of the input; a read that failed leaves what was held
+abbrev pub GotIn : ℕ → ℕ → Result ℕ ReadFailed → Type 0
+GotIn room held (Ok n) = held + n ≤ room
+GotIn room held (Err e) = e.held ≡ held
 
-abbrev pub GotIn : ℕ → ℕ → Got → Type 0
-GotIn room held (Bytes n) = Behind room held n
-GotIn room held End = Unit {0}
-GotIn room held Failed = Unit {0}
+-- what is held behind reads, also where one failed
+abbrev pub held_after : Result ℕ ReadFailed → ℕ
+held_after (Ok n) = n
+held_after (Err e) = e.held

@@ -13,28 +13,25 @@ use lib.ListN.{length, drop}
 use lib.Seq.{length-take-le}
 use Rattle.laws.specs.Bytes.{Bytes}
 use Rattle.opus_defines.specs.declared.Refusal.{Refusal}
-use Rattle.opus_defines.specs.declared.Verdict.TheVariants.{Accepted, Refused}
+use Rattle.std.specs.Prelude.{Err, Ok}
 use Rattle.opus_size.specs.Size.{most_bytes}
 use Rattle.opus_toc.specs.Toc.{upper_six, time}
 use Rattle.opus_format.specs.Frames.{cut, total, longest}
 use Rattle.opus_format.specs.Reading.{accepted, read}
 use Rattle.opus_format.proofs.Facts.{facts}
-use Rattle.opus.specs.Answers.{parsed, answer_of}
+use Rattle.opus.specs.Answers.{parsed}
 use Rattle.opus.specs.declared.Packet.{Packet}
-use Rattle.opus.specs.declared.PacketHead.{PacketHead}
 use Rattle.opus.proofs.Parsed.{lengths_of, parsed_accepted, parsed_refused}
-use Rattle.opus.proofs.Lent.{packet_with, lent_accepted}
 use Rattle.opus_header.specs.Compact.{compact}
 use Rattle.opus_header.specs.Sums.{sums_of}
 use Rattle.opus_header.specs.Forms.{compact_bytes}
 use Rattle.opus_header.specs.declared.Sums.{Sums}
 use Rattle.opus_header.proofs.Forms.{own_most, compact-front, sums_few}
 use Rattle.opus_header.proofs.Standing.{compact_needs}
-use Rattle.multistream.specs.Parts.{is_accepted, compact_by}
-use Rattle.multistream.proofs.Repacking.{accepted_verdict}
+use Rattle.multistream.specs.Parts.{compact_by}
 use Rattle.stream_join.specs.Join.{lasting}
 use Rattle.stream_join.specs.Parts.{stream_at, look_by}
-use Rattle.stream_join.specs.declared.Look.TheVariants.{Reads, Unread}
+use Rattle.stream_join.specs.declared.Look.{Look}
 
 pub cut_count : (ns s : List ℕ) → length (cut ns s) ≡ length ns
 cut_count [] s = refl
@@ -45,29 +42,26 @@ pub time_six : (toc count : ℕ) → time toc count ≡ time (4 * upper_six toc)
 time_six toc count = let e : 4 * (toc / 4) / 4 ≡ toc / 4 = omega arith in rw e
 
 -- ---- the reader's answer
-module _ (sd : Bool) (p : List ℕ) (h : PacketHead) (l : List ℕ) (e : answer_of h l ≡ parsed sd p) where
-  abbrev answer : Packet
-  answer = packet_with h l
-
+module _ (sd : Bool) (p : List ℕ) (answer : Packet) (e : Ok answer ≡ parsed sd p) where
   pub record Readable : Type 0 where
     pub inside : answer.count ≤ length answer.lengths
     pub means : read sd p ≡ accepted answer.toc (lengths_of answer) answer.first answer.taken
     pub some : (1 ≤ length (lengths_of answer)) × (length (lengths_of answer) ≤ 48) × (longest (lengths_of answer) ≤ most_bytes)
     pub block : answer.first + total (lengths_of answer) ≤ length p
 
-  pub readable : Bytes p → h.verdict ≡ Accepted → Readable
-  readable bytes v =
-      let d = parsed_accepted sd p answer (lent_accepted sd p h l e v) v in
+  pub readable : Bytes p → Readable
+  readable bytes =
+      let d = parsed_accepted sd p answer e in
       let f = facts sd p answer.toc (lengths_of answer) answer.first answer.taken bytes d.means in
       record { inside = d.inside; means = d.means; some = (f.some, f.few, f.small); block = omega (arith, f.block, f.within) }
 
   -- the compact packet is delimited as `out` says
   module _ (out : Bool) where
-    pub look_told : Bytes p → h.verdict ≡ Accepted → (m : Sums) → m ≡ sums_of (lengths_of answer)
+    pub look_told : Bytes p → (m : Sums) → m ≡ sums_of (lengths_of answer)
         → (need : ℕ) → need ≡ compact_bytes answer.count m out → (t : ℕ) → t ≡ time answer.toc answer.count
-        → (Reads answer.taken t need ≡ look_by out p (read sd p)) × (need ≤ 65536)
-    look_told bytes v m s need k t g =
-        let r = readable bytes v in
+        → (Ok (record { taken = answer.taken; time = t; bytes = need }) ≡ look_by out p (read sd p)) × (need ≤ 65536)
+    look_told bytes m s need k t g =
+        let r = readable bytes in
         let ns = lengths_of answer in
         let count : length ns ≡ answer.count = length-take-le answer.count answer.lengths r.inside in
         let long = compact_needs out (upper_six answer.toc) ns p answer.first r.block m s need (rw count k) in
@@ -76,16 +70,8 @@ module _ (sd : Bool) (p : List ℕ) (h : PacketHead) (l : List ℕ) (e : answer_
         let f = sums_few ns m s r.some.1 r.some.2 in
         (rw (r.means, long, lasts), omega (arith, k, f.0, f.1, own_most out m.last, compact-front answer.count))
 
-    pub look_refused : {c : Refusal} → h.verdict ≡ Refused c → length p ≤ 65535 → (Unread c ≡ look_by out p (read sd p)) × (0 ≤ 65536)
-    look_refused {c} v short = let q = parsed_refused sd p (answer_of h l) e c v short in (rw q.3 (ap Unread q.2), omega arith)
+  pub put_is : (out : Bool) → Bytes p → compact out (upper_six answer.toc) (cut (lengths_of answer) (drop answer.first p)) ≡ compact_by out p (read sd p)
+  put_is out bytes = rw (readable bytes).means
 
-  -- a packet that was read before
-  module _ (short : length p ≤ 65535) (ok : is_accepted (read sd p) ≡ true) (bytes : Bytes p) where
-    again : h.verdict ≡ Accepted
-    again = accepted_verdict sd p (answer_of h l) e short ok
-
-    pub read_again : Readable
-    read_again = readable bytes again
-
-    pub put_is : (out : Bool) → compact out (upper_six answer.toc) (cut (lengths_of answer) (drop answer.first p)) ≡ compact_by out p (read sd p)
-    put_is out = rw read_again.means
+pub look_refused : (sd : Bool) (p : List ℕ) {c : Refusal} → Err c ≡ parsed sd p → length p ≤ 65535 → (out : Bool) → Err c ≡ look_by out p (read sd p)
+look_refused sd p {c} e short out = let q = parsed_refused sd p c e short in rw q.3 (ap (λ (x : Refusal). Err x) q.2)

@@ -34,7 +34,8 @@ use Rattle.opus_defines.proofs.Outcomes.{rule_report}
 use Rattle.stream_join.specs.Join.{Held, stuck, holds, ahead, then_packets, held_by, lasting}
 use Rattle.stream_join.specs.Parts.{stream_at, packed, look_by, and_one, ended, surveyed_from, nothing, surveyed}
 use Rattle.stream_join.specs.Parts.{is_some, then_held, held_streams_in}
-use Rattle.stream_join.specs.declared.Look.TheVariants.{Reads, Unread}
+use Rattle.stream_join.specs.declared.Look.{Look}
+use Rattle.std.specs.Prelude.{Ok, Err}
 use Rattle.stream_join.specs.declared.Tally.{Tally}
 use Rattle.stream_join.specs.declared.Survey.TheVariants.{Stuck}
 
@@ -56,24 +57,29 @@ module _ (t : Tally) (i lasts bytes : ℕ) where
   one_later e f = rw (ne_eqb i 0 e, f)
 
 -- ---- one that was looked at
+abbrev looked : Bool → List ℕ → ℕ → List ℕ → ℕ → ℕ → Look
+looked out p toc ns first taken =
+    record { taken = taken; time = lasting (stream_at p toc ns first); bytes = length (packed out (stream_at p toc ns first)) }
+
 module _ (out sd : Bool) (p : List ℕ) where
-  pub look_place : (e : Refusal) → Unread e ≡ look_by out p (read sd p) → (refusal_report e).place ≤ length p
+  pub look_place : (e : Refusal) → Err e ≡ look_by out p (read sd p) → (refusal_report e).place ≤ length p
   look_place e h = go (read sd p) refl h
     where
-      go : (x : Reading) → read sd p ≡ x → Unread e ≡ look_by out p x → (refusal_report e).place ≤ length p
+      go : (x : Reading) → read sd p ≡ x → Err e ≡ look_by out p x → (refusal_report e).place ≤ length p
       go (refused rule place) q h =
           let same : e ≡ rule_refusal rule place = cc in
           rw (same, rule_report rule place) (refused_within sd p rule place q)
       go (accepted toc ns first taken) q h = never (cc)
 
-  look_taken : (n lasts bytes : ℕ) → Bytes p → Reads n lasts bytes ≡ look_by out p (read sd p) → n ≤ length p
-  look_taken n lasts bytes b h = go (read sd p) refl h
+  look_taken : (look : Look) → Bytes p → Ok look ≡ look_by out p (read sd p) → look.taken ≤ length p
+  look_taken look b h = go (read sd p) refl h
     where
-      go : (x : Reading) → read sd p ≡ x → Reads n lasts bytes ≡ look_by out p x → n ≤ length p
+      go : (x : Reading) → read sd p ≡ x → Ok look ≡ look_by out p x → look.taken ≤ length p
       go (refused rule place) q h = never (cc)
       go (accepted toc ns first taken) q h =
-          let same : n ≡ taken = cc in
-          omega (arith, taken_within sd p toc ns first taken b q)
+          let same : look ≡ looked out p toc ns first taken = cc in
+          let n : look.taken ≡ taken = ap (λ (x : Look). x.taken) same in
+          omega (arith, n, taken_within sd p toc ns first taken b q)
 
 -- ---- one more in front
 module _ (n at i : ℕ) (t : Tally) where
@@ -84,32 +90,29 @@ module _ (n at i : ℕ) (t : Tally) where
 
   -- a packet that is told, or not
   module _ (p : List ℕ) (h : Held) where
-    packet_told : (r : Reading) (taken lasts bytes : ℕ) → Reads taken lasts bytes ≡ look_by (ltb (i + 1) n) p r
-        → surveyed_from n at i t (then_packets h p r) ≡ surveyed_from n (at + length p) (i + 1) (and_one t i lasts bytes) h
-    packet_told (refused rule place) taken lasts bytes e = never (cc)
-    packet_told (accepted toc ns first n') taken lasts bytes e =
+    packet_told : (r : Reading) (look : Look) → Ok look ≡ look_by (ltb (i + 1) n) p r
+        → surveyed_from n at i t (then_packets h p r) ≡ surveyed_from n (at + length p) (i + 1) (and_one t i look.time look.bytes) h
+    packet_told (refused rule place) look e = never (cc)
+    packet_told (accepted toc ns first n') look e =
         let x = stream_at p toc ns first in
-        let l : lasts ≡ lasting x = cc in
-        let b : bytes ≡ length (packed (ltb (i + 1) n) x) = cc in
-        rw (l, b) (ahead-surveyed (length p) x h)
+        let same : look ≡ looked (ltb (i + 1) n) p toc ns first n' = cc in
+        rw same (ahead-surveyed (length p) x h)
 
-    packet_stuck : (r : Reading) (e : Refusal) → Unread e ≡ look_by (ltb (i + 1) n) p r
+    packet_stuck : (r : Reading) (e : Refusal) → Err e ≡ look_by (ltb (i + 1) n) p r
         → surveyed_from n at i t (then_packets h p r) ≡ Stuck (shifted at e)
     packet_stuck (refused rule place) e q = let same : e ≡ rule_refusal rule place = cc in rw same
     packet_stuck (accepted toc ns first n') e q = never (cc)
 
   module _ (p : List ℕ) (next : List ℕ → Held) where
-    stream-told : (r : Reading) (taken lasts bytes : ℕ) → Reads taken lasts bytes ≡ look_by (ltb (i + 1) n) p r
-        → surveyed_from n at i t (then_held next p r) ≡ surveyed_from n (at + taken) (i + 1) (and_one t i lasts bytes) (next (drop taken p))
-    stream-told (refused rule place) taken lasts bytes e = never (cc)
-    stream-told (accepted toc ns first n') taken lasts bytes e =
+    stream-told : (r : Reading) (look : Look) → Ok look ≡ look_by (ltb (i + 1) n) p r
+        → surveyed_from n at i t (then_held next p r) ≡ surveyed_from n (at + look.taken) (i + 1) (and_one t i look.time look.bytes) (next (drop look.taken p))
+    stream-told (refused rule place) look e = never (cc)
+    stream-told (accepted toc ns first n') look e =
         let x = stream_at p toc ns first in
-        let k : taken ≡ n' = cc in
-        let l : lasts ≡ lasting x = cc in
-        let b : bytes ≡ length (packed (ltb (i + 1) n) x) = cc in
-        rw (k, l, b) (ahead-surveyed n' x (next (drop n' p)))
+        let same : look ≡ looked (ltb (i + 1) n) p toc ns first n' = cc in
+        rw same (ahead-surveyed n' x (next (drop n' p)))
 
-    stream_stuck : (r : Reading) (e : Refusal) → Unread e ≡ look_by (ltb (i + 1) n) p r
+    stream_stuck : (r : Reading) (e : Refusal) → Err e ≡ look_by (ltb (i + 1) n) p r
         → surveyed_from n at i t (then_held next p r) ≡ Stuck (shifted at e)
     stream_stuck (refused rule place) e q = let same : e ≡ rule_refusal rule place = cc in rw same
     stream_stuck (accepted toc ns first n') e q = never (cc)
@@ -173,17 +176,17 @@ module _ (s ns : List ℕ) where
           let r = rw (next-length ns i h) at z.rest in
           rw (lent_is, is, ← drop-drop (get_or ns i 0) at s) r
 
-      pub surveying_stuck : (e : Refusal) → Unread e ≡ look_by (ltb (i + 1) (length ns)) lent (read false lent)
+      pub surveying_stuck : (e : Refusal) → Err e ≡ look_by (ltb (i + 1) (length ns)) lent (read false lent)
           → Stuck (shifted at e) ≡ surveyed (length ns) (held_by (cut ns s))
       surveying_stuck e q =
           sym (packet_stuck (length ns) at i t lent (held_by (cut (drop (i + 1) ns) (drop (at + k) s))) (read false lent) e q) ∙ stands
 
-      pub surveying_more : (taken lasts bytes : ℕ) → Reads taken lasts bytes ≡ look_by (ltb (i + 1) (length ns)) lent (read false lent) → bytes ≤ 65536
-          → (t' : Tally) → t' ≡ and_one t i lasts bytes → Surveying s ns t' (at + k) (i + 1)
-      surveying_more taken lasts bytes q b t' e =
-          let told = packet_told (length ns) at i t lent (held_by (cut (drop (i + 1) ns) (drop (at + k) s))) (read false lent) taken lasts bytes q in
+      pub surveying_more : (look : Look) → Ok look ≡ look_by (ltb (i + 1) (length ns)) lent (read false lent) → look.bytes ≤ 65536
+          → (t' : Tally) → t' ≡ and_one t i look.time look.bytes → Surveying s ns t' (at + k) (i + 1)
+      surveying_more look q b t' e =
+          let told = packet_told (length ns) at i t lent (held_by (cut (drop (i + 1) ns) (drop (at + k) s))) (read false lent) look q in
           let p = rw (next-length ns i h) at z.place in
-          let all : t'.bytes ≡ t.bytes + bytes = ap (λ (x : Tally). x.bytes) e in
+          let all : t'.bytes ≡ t.bytes + look.bytes = ap (λ (x : Tally). x.bytes) e in
           record {
             inside = omega arith;
             place = omega (arith, p, is);
@@ -233,26 +236,26 @@ module _ (s : List ℕ) (n : ℕ) where
           let c : suc one_left.0 + i ≡ n = omega (arith, z.count, one_left.1) in
           rw (part_to_end s at, ← some_left one_left.0 i n c) (rw one_left.1 at z.rest)
 
-      pub streaming_stuck : (e : Refusal) → Unread e ≡ look_by (ltb (i + 1) n) lent_to_end (read (ltb (i + 1) n) lent_to_end)
+      pub streaming_stuck : (e : Refusal) → Err e ≡ look_by (ltb (i + 1) n) lent_to_end (read (ltb (i + 1) n) lent_to_end)
           → Stuck (shifted at e) ≡ surveyed n (held_streams_in n s)
       streaming_stuck e q =
           sym (stream_stuck n at i t lent_to_end (held_streams_in one_left.0) (read (ltb (i + 1) n) lent_to_end) e q) ∙ now_stands
 
-      module _ (bytes-s : Bytes s) (taken lasts bytes : ℕ)
-          (q : Reads taken lasts bytes ≡ look_by (ltb (i + 1) n) lent_to_end (read (ltb (i + 1) n) lent_to_end)) where
-        pub streaming_within : at + taken ≤ length s
+      module _ (bytes-s : Bytes s) (look : Look)
+          (q : Ok look ≡ look_by (ltb (i + 1) n) lent_to_end (read (ltb (i + 1) n) lent_to_end)) where
+        pub streaming_within : at + look.taken ≤ length s
         streaming_within =
-            let w = look_taken (ltb (i + 1) n) (ltb (i + 1) n) (drop at s) taken lasts bytes (bytes_drop at s bytes-s) (rw (part_to_end s at) at q) in
+            let w = look_taken (ltb (i + 1) n) (ltb (i + 1) n) (drop at s) look (bytes_drop at s bytes-s) (rw (part_to_end s at) at q) in
             omega (arith, w, length-drop at s, z.inside)
 
-        pub streaming_more : bytes ≤ 65536 → (t' : Tally) → t' ≡ and_one t i lasts bytes → Streaming s n t' (at + taken) (i + 1)
+        pub streaming_more : look.bytes ≤ 65536 → (t' : Tally) → t' ≡ and_one t i look.time look.bytes → Streaming s n t' (at + look.taken) (i + 1)
         streaming_more b t' e =
-            let told = stream-told n at i t lent_to_end (held_streams_in one_left.0) (read (ltb (i + 1) n) lent_to_end) taken lasts bytes q in
-            let all : t'.bytes ≡ t.bytes + bytes = ap (λ (x : Tally). x.bytes) e in
+            let told = stream-told n at i t lent_to_end (held_streams_in one_left.0) (read (ltb (i + 1) n) lent_to_end) look q in
+            let all : t'.bytes ≡ t.bytes + look.bytes = ap (λ (x : Tally). x.bytes) e in
             record {
               inside = streaming_within;
               few = omega (arith, all, z.few);
               left = one_left.0;
               count = omega (arith, z.count, one_left.1);
-              rest = rw (e, ← drop-drop taken at s) (rw (part_to_end s at) at (sym told ∙ now_stands));
+              rest = rw (e, ← drop-drop look.taken at s) (rw (part_to_end s at) at (sym told ∙ now_stands));
             }

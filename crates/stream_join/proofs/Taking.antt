@@ -31,11 +31,9 @@ use Rattle.opus_defines.specs.Numbers.{count_of}
 use Rattle.opus_defines.specs.Outcome.{Effect, refusal, written, leaves, into_room}
 use Rattle.opus_defines.specs.declared.Refusal.{Refusal}
 use Rattle.opus_defines.specs.declared.Refusal.TheVariants.{BadArg, BufferTooSmall}
-use Rattle.opus_defines.specs.declared.Count.TheVariants.{Is, Negative}
+use Rattle.std.specs.Prelude.{Result, Ok, None, Some}
 use Rattle.opus_defines.proofs.Counts.{is_natural}
 use Rattle.opus_format.specs.Reading.{Reading, refused, accepted, read}
-use Rattle.multistream.specs.declared.Passed.{Passed}
-use Rattle.multistream.specs.declared.Passed.TheVariants.{Past}
 use Rattle.multistream.specs.Streams.{streams_of, pass_streams}
 use Rattle.multistream.specs.Unpad.{Repacked, unread, repacked, repack_reading, repack_streams}
 use Rattle.multistream.specs.Unpad as Unpad
@@ -110,7 +108,7 @@ unread-or_streams k s = go (repack_streams k s) (read_streams k s) (agree_stream
 -- ---- where stream k stands
 pub record Place (m k : ℕ) (s : List ℕ) (xs : List Stream) : Type 0 where
   pub at : ℕ
-  pub passed : pass_streams k s ≡ Past at
+  pub passed : pass_streams k s ≡ Ok at
   pub ok : is_accepted (read (is_some m) (drop at s)) ≡ true
   pub puts : compact_by false (drop at s) (read (is_some m) (drop at s)) ≡ packet_of k xs
 
@@ -162,7 +160,7 @@ look_bytes out p (refused rule place) a = never (cc)
 look_bytes out p (accepted toc ns first taken) a = refl
 
 -- ---- stream k of n; p and at are what passing the first k streams answered
-module _ (s : List ℕ) (n k : ℕ) (h : k < n) (held : is_held (held_streams_in n s) ≡ true) (p : Passed) (e : p ≡ pass_streams k s) (at : ℕ)
+module _ (s : List ℕ) (n k : ℕ) (h : k < n) (held : is_held (held_streams_in n s) ≡ true) (p : Result ℕ Refusal) (e : p ≡ pass_streams k s) (at : ℕ)
     (a : at ≡ place_of p) where
   abbrev taken_out : List ℕ
   taken_out = packet_of k (held_streams (held_streams_in n s))
@@ -174,7 +172,7 @@ module _ (s : List ℕ) (n k : ℕ) (h : k < n) (held : is_held (held_streams_in
   at_is = sym (rw (e, stands.passed) at a)
 
   pub take_inside : Bytes s → at ≤ length s
-  take_inside bytes = pass_within k s at bytes (stands.passed ∙ ap Past at_is)
+  take_inside bytes = pass_within k s at bytes (stands.passed ∙ ap Ok at_is)
 
   abbrev lent : List ℕ
   lent = take (length s - at) (drop at s)
@@ -188,7 +186,7 @@ module _ (s : List ℕ) (n k : ℕ) (h : k < n) (held : is_held (held_streams_in
   pub take_puts : compact_by false lent (read (ltb (k + 1) n) lent) ≡ taken_out
   take_puts = rw (part_to_end s at, ← sd_is, ← at_is) stands.puts
 
-  module _ (x : Look) (f : x ≡ look_by false lent (read (ltb (k + 1) n) lent)) (m : ℕ) (g : m ≡ bytes_of x) where
+  module _ (x : Result Look Refusal) (f : x ≡ look_by false lent (read (ltb (k + 1) n) lent)) (m : ℕ) (g : m ≡ bytes_of x) where
     pub take_bytes : m ≡ length taken_out
     take_bytes = g ∙ (ap bytes_of f ∙ (look_bytes false lent (read (ltb (k + 1) n) lent) take_reads ∙ ap length take_puts))
 
@@ -214,14 +212,14 @@ module _ (s : List ℕ) (nb k : ℤ) (room : ℕ) where
       unfolding Join.take
       by_number = rw (le-ltb 65535 (length s) short, le-ltb 65535 room narrow)
 
-      pub take_negative : count_of k ≡ Negative → Join.take s nb k room ≡ refusal BadArg
+      pub take_negative : count_of k ≡ None → Join.take s nb k room ≡ refusal BadArg
       take_negative e = by_number ∙ go k e
         where
-          go : (k : ℤ) → count_of k ≡ Negative → take_of s (streams_of nb) k room ≡ refusal BadArg
+          go : (k : ℤ) → count_of k ≡ None → take_of s (streams_of nb) k room ≡ refusal BadArg
           go (pos m) e = never (cc)
           go (negsuc m) e = refl
 
-      module _ (n : ℕ) (count : streams_of nb ≡ n) (m : ℕ) (is : count_of k ≡ Is m) where
+      module _ (n : ℕ) (count : streams_of nb ≡ n) (m : ℕ) (is : count_of k ≡ Some m) where
         pub take_above : n ≤ m → Join.take s nb k room ≡ refusal BadArg
         take_above h = by_number ∙ rw (is_natural k m is, count, le-leb n m h)
 

@@ -6,11 +6,10 @@ use Rattle.opus_format.specs.Frames.{cut}
 use Rattle.opus_format.specs.Reading.{Reading, refused, accepted, read}
 use Rattle.opus_header.specs.Compact.{compact}
 use Rattle.multistream.specs.Reading.{Stream}
-use Rattle.multistream.specs.declared.Passed.{Passed}
-use Rattle.multistream.specs.declared.Passed.TheVariants.{Past, Stuck as Blocked}
+use Rattle.std.specs.Prelude.{Result, Ok, Err}
+use Rattle.opus_defines.specs.declared.Refusal.{Refusal}
 use Rattle.stream_join.specs.Join.{Held, stuck, holds, ahead, lasting}
 use Rattle.stream_join.specs.declared.Look.{Look}
-use Rattle.stream_join.specs.declared.Look.TheVariants.{Reads, Unread}
 use Rattle.stream_join.specs.declared.Tally.{Tally}
 use Rattle.stream_join.specs.declared.Survey.{Survey}
 use Rattle.stream_join.specs.declared.Survey.TheVariants.{Needs, Unequal, Stuck}
@@ -24,18 +23,18 @@ abbrev pub packed : Bool → Stream → List ℕ
 packed sd x = compact sd x.six x.frames
 
 -- the bytes that it takes, how long it lasts, and the bytes of its compact packet; or why it cannot be read
-abbrev pub look_by : Bool → List ℕ → Reading → Look
-look_by sd s (refused rule place) = Unread (rule_refusal rule place)
+abbrev pub look_by : Bool → List ℕ → Reading → Result Look Refusal
+look_by sd s (refused rule place) = Err (rule_refusal rule place)
 look_by sd s (accepted toc ns first taken) =
-    Reads taken (lasting (stream_at s toc ns first)) (length (packed sd (stream_at s toc ns first)))
+    Ok (record { taken = taken; time = lasting (stream_at s toc ns first); bytes = length (packed sd (stream_at s toc ns first)) })
 
-abbrev pub bytes_of : Look → ℕ
-bytes_of (Reads taken lasts bytes) = bytes
-bytes_of (Unread e) = 0
+abbrev pub bytes_of : Result Look Refusal → ℕ
+bytes_of (Ok look) = look.bytes
+bytes_of (Err e) = 0
 
-abbrev pub place_of : Passed → ℕ
-place_of (Past at) = at
-place_of (Blocked e) = 0
+abbrev pub place_of : Result ℕ Refusal → ℕ
+place_of (Ok at) = at
+place_of (Err e) = 0
 
 -- ---- all of them
 -- the i-th, from 0, beside those before it: the first one's time is that of all

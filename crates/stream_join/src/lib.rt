@@ -11,34 +11,33 @@ ghost use Rattle.multistream.specs.Parts.{is_accepted, compact_by};
 ghost use Rattle.stream_join.specs.Join.{held_by, packet_of, packets_joined, stream_taken};
 ghost use Rattle.stream_join.specs.Parts.{look_by, place_of, bytes_of, and_one, ended, surveyed, packed_from, is_held, held_streams, held_streams_in};
 
-use multistream::Passed;
-use opus_defines::{Answer, Count, Refusal, Report, Verdict, wide};
+use opus_defines::{Refusal, Report, wide};
 
 // ---- one packet or stream
 
-// The bytes that it takes, how long it lasts in samples at 48 kHz, and the bytes of its compact packet; or why it cannot be read.
-#[derive(Clone, Copy)]
-pub enum Look {
-    Reads(usize, u32, usize),
-    Unread(Refusal),
+// The bytes that it takes, how long it lasts in samples at 48 kHz, and the bytes of its compact packet.
+#[derive(Clone, Copy, Debug, PartialEq, Eq)]
+pub struct Look {
+    pub taken: usize,
+    pub time: u32,
+    pub bytes: usize,
 }
 
 // Reads the packet at the front of `data`, whose compact packet is to be delimited so.
-fn look_at(data: &[u8], self_delimited: bool, compact_delimited: bool) -> Look
+fn look_at(data: &[u8], self_delimited: bool, compact_delimited: bool) -> Result<Look, Refusal>
     requires { length «data».now ≤ 65535 }
     ensures says { result ≡ look_by compact_delimited «data».now (read self_delimited «data».now) }
     ensures small { bytes_of result ≤ 65536 }
 {
     let mut ns = [0u16; 48];
-    let p = opus::read_into(data, self_delimited, &mut ns);
-    let v = p.verdict;
-    let Verdict::Refused(e) = v else {
-        let n = p.count;
-        let m = opus_header::sums_of(&ns[..n]);
-        let bytes = opus_header::compact_bytes(n, m, compact_delimited);
-        return Look::Reads(p.taken, opus_toc::time_48k(p.toc, n as u16), bytes);
-    };
-    Look::Unread(e)
+    let p = opus::read_into(data, self_delimited, &mut ns)?;
+    let m = opus_header::sums_of(&ns[..p.count]);
+    let bytes = opus_header::compact_bytes(p.count, m, compact_delimited);
+    Ok(Look {
+        taken: p.taken,
+        time: opus_toc::time_48k(p.toc, p.count as u16),
+        bytes,
+    })
 }
 
 // Writes the compact packet of the packet at the front of `data`, which was read before, at the front of `dst`.
@@ -50,10 +49,8 @@ fn put_stream(data: &[u8], self_delimited: bool, dst: &mut [u8], compact_delimit
     ensures next { result ≡ length (compact_by compact_delimited «data».now (read self_delimited «data».now)) }
 {
     let mut ns = [0u16; 48];
-    let p = opus::read_into(data, self_delimited, &mut ns);
-    let n = p.count;
-    let first = p.first;
-    opus_header::put_compact(dst, p.toc, &ns[..n], data, first, compact_delimited)
+    let p = opus::read_into(data, self_delimited, &mut ns).unwrap();
+    opus_header::put_compact(dst, p.toc, &ns[..p.count], data, p.first, compact_delimited)
 }
 
 // ---- all of them
@@ -120,10 +117,8 @@ fn sum_of(lengths: &[u16]) -> usize
     ensures { result ≡ total lengths.now }
 {
     let mut sum: usize = 0;
-    let mut i: usize = 0;
-    while i < lengths.len() {
-        sum += wide(lengths[i]);
-        i += 1;
+    for &n in lengths {
+        sum += wide(n);
     }
     sum
 }
@@ -140,20 +135,18 @@ fn survey_packets(data: &[u8], lengths: &[u16]) -> Survey
         bytes: 0,
     };
     let mut at: usize = 0;
-    let mut i: usize = 0;
-    while i < count {
+    for i in 0..count {
         let next = at + wide(lengths[i]);
         let x = look_at(&data[at..next], false, i + 1 < count);
         match x {
-            Look::Reads(_, lasts, bytes) => {
-                t = and_one(t, i, lasts, bytes);
+            Ok(look) => {
+                t = and_one(t, i, look.time, look.bytes);
             }
-            Look::Unread(e) => {
+            Err(e) => {
                 return Survey::Stuck(opus_defines::shift(e, at));
             }
         }
         at = next;
-        i += 1;
     }
     end(t)
 }
@@ -169,45 +162,43 @@ fn put_packets(data: &[u8], lengths: &[u16], dst: &mut [u8])
     let n = lengths.len();
     let mut at: usize = 0;
     let mut to: usize = 0;
-    let mut i: usize = 0;
-    while i < n {
+    for i in 0..n {
         let next = at + wide(lengths[i]);
         to += put_stream(&data[at..next], false, &mut dst[to..], i + 1 < n);
         at = next;
-        i += 1;
     }
 }
 
-fn join_answer(data: &[u8], lengths: &[u16], dst: &mut [u8]) -> Answer
+fn join_answer(data: &[u8], lengths: &[u16], dst: &mut [u8]) -> Result<u16, Refusal>
     ensures report { report_of result ≡ (packets_joined «data».now lengths.now dst.old).report }
     ensures bytes { dst.new ≡ (packets_joined «data».now lengths.now dst.old).bytes }
 {
     if lengths.len() == 0 {
-        return Answer::Refused(Refusal::BadArg);
+        return Err(Refusal::BadArg);
     }
     if 255 < lengths.len() {
-        return Answer::Refused(Refusal::BadArg);
+        return Err(Refusal::BadArg);
     }
     if opus::MOST_PACKET < data.len() {
-        return Answer::Refused(Refusal::BadArg);
+        return Err(Refusal::BadArg);
     }
     if opus::MOST_PACKET < dst.len() {
-        return Answer::Refused(Refusal::BadArg);
+        return Err(Refusal::BadArg);
     }
     if sum_of(lengths) != data.len() {
-        return Answer::Refused(Refusal::BadArg);
+        return Err(Refusal::BadArg);
     }
     let x = survey_packets(data, lengths);
     match x {
         Survey::Needs(n) => {
             if dst.len() < n {
-                return Answer::Refused(Refusal::BufferTooSmall);
+                return Err(Refusal::BufferTooSmall);
             }
             put_packets(data, lengths, dst);
-            Answer::Number(n as u16)
+            Ok(n as u16)
         }
-        Survey::Unequal => Answer::Refused(Refusal::InvalidPacket),
-        Survey::Stuck(e) => Answer::Refused(e),
+        Survey::Unequal => Err(Refusal::InvalidPacket),
+        Survey::Stuck(e) => Err(e),
     }
 }
 
@@ -234,45 +225,37 @@ fn survey_streams(data: &[u8], n: usize) -> Survey
         bytes: 0,
     };
     let mut at: usize = 0;
-    let mut i: usize = 0;
-    while i < n {
+    for i in 0..n {
         let x = look_at(&data[at..], i + 1 < n, i + 1 < n);
         match x {
-            Look::Reads(taken, lasts, bytes) => {
-                t = and_one(t, i, lasts, bytes);
-                at += taken;
+            Ok(look) => {
+                t = and_one(t, i, look.time, look.bytes);
+                at += look.taken;
             }
-            Look::Unread(e) => {
+            Err(e) => {
                 return Survey::Stuck(opus_defines::shift(e, at));
             }
         }
-        i += 1;
     }
     end(t)
 }
 
 // Where the stream behind those that were passed stands.
-fn place_of(p: Passed) -> usize
+fn place_of(p: Result<usize, Refusal>) -> usize
     ensures { result ≡ place_of p }
 {
-    match p {
-        Passed::Past(at) => at,
-        Passed::Stuck(_) => 0,
-    }
+    p.unwrap_or(0)
 }
 
 // The bytes of the compact packet.
-fn bytes_of(x: Look) -> usize
+fn bytes_of(x: Result<Look, Refusal>) -> usize
     ensures { result ≡ bytes_of x }
 {
-    match x {
-        Look::Reads(_, _, bytes) => bytes,
-        Look::Unread(_) => 0,
-    }
+    x.map_or(0, |look| look.bytes)
 }
 
 // Takes out stream k of n, all of which were read before.
-fn take_stream(data: &[u8], n: usize, k: usize, dst: &mut [u8]) -> Answer
+fn take_stream(data: &[u8], n: usize, k: usize, dst: &mut [u8]) -> Result<u16, Refusal>
     requires k_lt_n { (k < n) × (n ≤ 255) × (length «data».now ≤ 65535) × (length dst.old ≤ 65535) }
     requires reads { is_held (held_streams_in n «data».now) ≡ true }
     ensures report { report_of result
@@ -283,34 +266,34 @@ fn take_stream(data: &[u8], n: usize, k: usize, dst: &mut [u8]) -> Answer
     let at = place_of(multistream::pass_streams(data, k));
     let bytes = bytes_of(look_at(&data[at..], k + 1 < n, false));
     if dst.len() < bytes {
-        return Answer::Refused(Refusal::BufferTooSmall);
+        return Err(Refusal::BufferTooSmall);
     }
     put_stream(&data[at..], k + 1 < n, dst, false);
-    Answer::Number(bytes as u16)
+    Ok(bytes as u16)
 }
 
-fn take_answer(data: &[u8], nb_streams: i32, k: i32, dst: &mut [u8]) -> Answer
+fn take_answer(data: &[u8], nb_streams: i32, k: i32, dst: &mut [u8]) -> Result<u16, Refusal>
     ensures report { report_of result ≡ (stream_taken «data».now nb_streams k dst.old).report }
     ensures bytes { dst.new ≡ (stream_taken «data».now nb_streams k dst.old).bytes }
 {
     if opus::MOST_PACKET < data.len() {
-        return Answer::Refused(Refusal::BadArg);
+        return Err(Refusal::BadArg);
     }
     if opus::MOST_PACKET < dst.len() {
-        return Answer::Refused(Refusal::BadArg);
+        return Err(Refusal::BadArg);
     }
     let n = multistream::streams_of(nb_streams);
-    let Count::Is(stream) = opus_defines::count_of(k) else {
-        return Answer::Refused(Refusal::BadArg);
+    let Some(stream) = opus_defines::count_of(k) else {
+        return Err(Refusal::BadArg);
     };
     if n <= stream {
-        return Answer::Refused(Refusal::BadArg);
+        return Err(Refusal::BadArg);
     }
     let x = survey_streams(data, n);
     match x {
         Survey::Needs(_) => take_stream(data, n, stream, dst),
-        Survey::Unequal => Answer::Refused(Refusal::InvalidPacket),
-        Survey::Stuck(e) => Answer::Refused(e),
+        Survey::Unequal => Err(Refusal::InvalidPacket),
+        Survey::Stuck(e) => Err(e),
     }
 }
 

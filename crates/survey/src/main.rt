@@ -4,7 +4,6 @@
 ghost use Rattle.std.specs.Prelude.{◌≡◌, length};
 
 use capture_survey::Survey;
-use show::STDERR_FILENO;
 use std::io::Stdin;
 
 // The bytes held at most: so many that what is left of a part, less than a window, costs little to move.
@@ -31,38 +30,43 @@ fn report(s: Survey, bytes: usize) {
     show::text(b" end\n");
 }
 
-fn too_long() {
-    io::write_all(STDERR_FILENO, b"aveluafi: standard input is too long\n");
+// Why the input was not counted to its end: a read failed when so many bytes had come, or more came than are counted.
+#[derive(Clone, Copy)]
+enum Failure {
+    Read(usize),
+    TooLong,
 }
 
-fn survey(from: &mut Stdin, buf: &mut [u8])
+// What the input holds, and its bytes.
+fn survey(from: &mut Stdin, buf: &mut [u8]) -> Result<(Survey, usize), Failure>
     requires { length buf.old ≡ 262144 }
 {
     let mut sum = capture_survey::nothing();
     let mut done: usize = 0;
     let mut held: usize = 0;
     while done < MOST {
-        let f = capture_parts::fill(from, buf, held);
+        let f = match capture_parts::fill(from, buf, held) {
+            Ok(filled) => filled,
+            Err(failed) => return Err(Failure::Read(done + failed.held)),
+        };
         let all = f.held;
-        let last = f.last;
-        if !f.ok {
-            stdio::tell_read_failed(done + all);
-            return;
-        }
-        let s = capture_survey::survey_part(&buf[..all], last, sum);
+        let s = capture_survey::survey_part(&buf[..all], f.last, sum);
         let n = s.bytes;
         sum = s.sum;
         done += n;
-        if last {
-            report(sum, done);
-            return;
+        if f.last {
+            return Ok((sum, done));
         }
         held = capture_parts::keep_rest(buf, all, n);
     }
-    too_long();
+    Err(Failure::TooLong)
 }
 
 fn main(rt: HostRuntime) {
     let mut buf = [0u8; ROOM];
-    survey(&mut rt.stdin(), &mut buf);
+    match survey(&mut rt.stdin(), &mut buf) {
+        Ok((sum, bytes)) => report(sum, bytes),
+        Err(Failure::Read(came)) => stdio::tell_read_failed(came),
+        Err(Failure::TooLong) => stdio::tell_too_long(),
+    }
 }

@@ -1,10 +1,10 @@
-use Rattle.std.proofs.Common.{arith}
-use lib.ListN.{length-set}
-use Rattle.blocks.proofs.Sets.{copied_next}
+use Rattle.std.proofs.Common.{◌∙◌}
+use Rattle.blocks.proofs.Sets.{length_part}
+use Rattle.blocks.proofs.LentParts.{sets-whole, part_between}
 use Rattle.blocks.proofs.copy_bytes.Goals as goal
 
-pub loop-i-preserved : goal.loop-i-preserved
-loop-i-preserved c =
-    let l = c.loop-i in
+pub returns : goal.returns
+returns c =
     let a = c.args in
-    (omega arith, (rw l.invariant.1.0 (copied_next a.dst.now a.at a.src.now a.from l.i (omega arith)), simp length-set (omega arith)))
+    sets-whole a.dst.now a.at a.n _ (c.copy_from_slice.ensures.after ∙ part_between a.src.now a.from a.n) c.requires.0
+    (length_part a.src.now a.from a.n c.requires.1)

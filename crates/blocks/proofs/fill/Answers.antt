@@ -1,10 +1,13 @@
-use Rattle.std.proofs.Common.{arith}
-use lib.ListN.{length-set}
-use Rattle.blocks.proofs.Sets.{filled_next}
+use Rattle.std.proofs.Common.{◌∙◌, ap, length}
+use Rattle.std.proofs.lemmas.List.{length-replicate}
+use Rattle.blocks.proofs.Sets.{length_part}
+use Rattle.blocks.proofs.LentParts.{sets-whole, part_between}
 use Rattle.blocks.proofs.fill.Goals as goal
+use Rattle.std.specs.Prelude.{replicate, ℕ}
 
-pub loop-i-preserved : goal.loop-i-preserved
-loop-i-preserved c =
-    let l = c.loop-i in
+pub returns : goal.returns
+returns c =
     let a = c.args in
-    (omega arith, (rw l.invariant.1.0 (filled_next a.s.now a.from l.i a.value), simp length-set (omega arith)))
+    let long = ap length (part_between a.s.now a.from a.n) ∙ length_part a.s.now a.from a.n c.requires in
+    sets-whole a.s.now a.from a.n _ (c.fill.ensures.after (λ y h. h) ∙ ap (λ (n : ℕ). replicate n a.value) long) c.requires
+    (length-replicate a.n a.value)

@@ -14,21 +14,21 @@ use Rattle.repacketizer_out.specs.Output.{range}
 use Rattle.repacketizer_out.proofs.Ranges.{Part, part_of}
 use Rattle.cut_orders.proofs.Effects.{effect_before, effect_under, effect_none, held_past, need_short, need_fits}
 use Rattle.cut_orders.proofs.need_of.Goals as goal
-use Rattle.cut_orders.proofs.need_of.Goals.{Else-wide-e, In-Is-count_of, Start}
+use Rattle.cut_orders.proofs.need_of.Goals.{Else-wide-e, In-Some-count_of, Start}
 
-begins : (c : In-Is-count_of) → c.args.begin ≡ pos c.in-Is.b
+begins : (c : In-Some-count_of) → c.args.begin ≡ pos c.in-Some.b
 begins c =
-    is_natural c.args.begin _ (counted c.args.begin c.ranges.begin c.count_of.ensures.is c.in-Is.is)
+    is_natural c.args.begin _ (counted c.args.begin c.ranges.begin c.count_of.ensures.is c.in-Some.is)
 
-ends : (c : In-Is-count_of) → c.args.end ≡ pos c.in-Is-count_of.e
+ends : (c : In-Some-count_of) → c.args.end ≡ pos c.in-Some-count_of.e
 ends c =
-    is_natural c.args.end _ (counted c.args.end c.ranges.end c.count_of-2.ensures.is c.in-Is-count_of.is)
+    is_natural c.args.end _ (counted c.args.end c.ranges.end c.count_of-2.ensures.is c.in-Some-count_of.is)
 
 abbrev from : Else-wide-e → ℕ
-from c = c.in-Is.b
+from c = c.in-Some.b
 
 abbrev to : Else-wide-e → ℕ
-to c = c.in-Is-count_of.e
+to c = c.in-Some-count_of.e
 
 within : (c : Else-wide-e) → to c ≤ c.args.h.nb_frames
 within c = omega (arith, c.wide.ensures.0)
@@ -68,17 +68,17 @@ returns-then-e-b c =
     record {
       most = omega arith;
       number = λ store dst j. rw (effect_none (upper_six c.args.h.toc) (held (bare c.args.h c.args.len.now) store) c.args.room
-          (begins (goal.at.returns-then-e-b c).In-Is-count_of) (ends (goal.at.returns-then-e-b c).In-Is-count_of)
+          (begins (goal.at.returns-then-e-b c).In-Some-count_of) (ends (goal.at.returns-then-e-b c).In-Some-count_of)
           c.if-e-b.true);
     }
 
 pub returns-then-wide-e : goal.returns-then-wide-e
 returns-then-wide-e c =
-    let past : c.args.h.nb_frames < c.in-Is-count_of.e = omega (arith, c.wide.ensures.0) in record {
+    let past : c.args.h.nb_frames < c.in-Some-count_of.e = omega (arith, c.wide.ensures.0) in record {
       most = omega arith;
       number = λ store dst j.
           rw (held_past (bare c.args.h c.args.len.now) (holds (goal.at.returns-then-wide-e c).Start) store j c.args.room
-          (begins (goal.at.returns-then-wide-e c).In-Is-count_of) (ends (goal.at.returns-then-wide-e c).In-Is-count_of) c.if-e-b.false past);
+          (begins (goal.at.returns-then-wide-e c).In-Some-count_of) (ends (goal.at.returns-then-wide-e c).In-Some-count_of) c.if-e-b.false past);
     }
 
 pub sums_of-m-requires : goal.sums_of-m-requires
@@ -97,7 +97,7 @@ returns-then-room-need c =
       most = omega arith;
       number = λ store dst j.
           rw (need_short (bare c.args.h c.args.len.now) (holds (goal.at.returns-then-room-need c).Start) store j c.args.room
-          (begins (goal.at.returns-then-room-need c).In-Is-count_of) (ends (goal.at.returns-then-room-need c).In-Is-count_of) c.if-e-b.false
+          (begins (goal.at.returns-then-room-need c).In-Some-count_of) (ends (goal.at.returns-then-room-need c).In-Some-count_of) c.if-e-b.false
           (within (goal.at.returns-then-room-need c).Else-wide-e)
           c.sums_of-m.ensures c.compact_bytes-need.ensures c.if-room-need.true);
     }
@@ -108,6 +108,6 @@ returns c =
       most = c.if-room-need.false;
       number = λ store dst j.
           rw (need_fits (bare c.args.h c.args.len.now) (holds (goal.at.returns c).Start) store j c.args.room
-          (begins (goal.at.returns c).In-Is-count_of) (ends (goal.at.returns c).In-Is-count_of) c.if-e-b.false (within (goal.at.returns c).Else-wide-e)
+          (begins (goal.at.returns c).In-Some-count_of) (ends (goal.at.returns c).In-Some-count_of) c.if-e-b.false (within (goal.at.returns c).Else-wide-e)
           c.sums_of-m.ensures c.compact_bytes-need.ensures c.if-room-need.false);
     }

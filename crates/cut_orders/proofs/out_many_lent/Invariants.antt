@@ -1,5 +1,5 @@
 -- `cut_orders::out_many_lent`: what the first orders come to, and what they leave.
-use Prim.Native.Nat.{◌-◌, ◌≤◌}
+use Prim.Native.Nat.{◌≤◌}
 use mathlib.Core.Path.{◌≡◌}
 use Rattle.cut_orders.specs.Orders.{order_report}
 use Rattle.cut_orders.proofs.Passes as P
@@ -13,9 +13,6 @@ invariant-loop-i l =
       report : l.m ≡ order_report (P.part l.h l.len l.packet l.store l.fn.orders l.fn.«data» l.i);
     }
 
-abbrev pub decreases-loop-i : goal.decreases-loop-i
-decreases-loop-i l = l.n - l.i
-
 -- the second pass: the list, the destination, and the place behind what is written
 abbrev pub invariant-loop-k : goal.invariant-loop-k
 invariant-loop-k l =
@@ -25,6 +22,3 @@ invariant-loop-k l =
       bytes : l.«data» ≡ P.bytes l.h l.len l.packet l.store l.fn.orders l.fn.«data» l.k;
       place : l.at ≡ P.place l.h l.len l.packet l.store l.fn.orders l.fn.«data» l.k;
     }
-
-abbrev pub decreases-loop-k : goal.decreases-loop-k
-decreases-loop-k l = l.all - l.k

@@ -12,4 +12,4 @@ returns-in_default c =
 pub returns : goal.returns
 returns c =
     turns-all c.args.m.number c.args.n _
-    (counted c.args.m.number (search rules) c.count_of.ensures.is c.in-Is.is)
+    (counted c.args.m.number (search rules) c.count_of.ensures.is c.in-Some.is)

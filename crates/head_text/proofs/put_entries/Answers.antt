@@ -1,26 +1,21 @@
--- `head_text::put_entries` meets its contract. The invariant of its loop: the first i entries are put. The measure is the entries left.
-use native.Mathlib.Omega.{arith}
-use mathlib.Core.Path.{refl}
-use Rattle.show.proofs.Laid.{laid_ends}
-use Rattle.head_text.proofs.Entries.{put_start, put_length, put_room, put_more, put_end}
+-- An entry more.
+use Rattle.std.proofs.Common.{ℕ, ◌∙◌, ap, sym, length, arith, rules, append-nil, append_assoc, length-append}
+use Rattle.head_text.specs.Text.{entry_texts}
+use Rattle.head_text.proofs.Entries.{entries_next, entries-within}
 use Rattle.head_text.proofs.put_entries.Goals as goal
 
-pub loop-i-init : goal.loop-i-init
-loop-i-init c =
-    put_start c.args.out.now c.args.at c.args.es.now
+pub loop-entry-init : goal.loop-entry-init
+unfolding entry_texts
+loop-entry-init g c = sym (append-nil c.args.text.now)
 
-pub put_named-next-requires : goal.put_named-next-requires
-put_named-next-requires c =
-    put_room c.loop-i.invariant c.wide_byte.ensures.0 (omega arith) c.requires
+pub put_named-requires : goal.put_named-requires
+put_named-requires g c =
+    let i = c.loop-entry.entry-index in
+    let e = entries-within c.args.es.now i (omega arith) in
+    let is = c.from.ensures in
+    (search rules, rw is (omega (arith, ap length c.loop-entry.invariant, length-append {A = ℕ}, e)))
 
-pub loop-i-preserved : goal.loop-i-preserved
-loop-i-preserved c =
-    put_more c.loop-i.invariant c.wide_byte.ensures.0 (omega arith) (record { bytes = c.put_named-next.ensures.bytes; place = c.put_named-next.ensures.next })
-
-pub shape_of-out : goal.shape_of-out
-shape_of-out c =
-    put_length c.loop-i.invariant
-
-pub returns : goal.returns
-returns c =
-    let whole = laid_ends (put_end c.loop-i.invariant (omega arith)) refl in record { bytes = whole.0; next = whole.1 }
+pub loop-entry-preserved : goal.loop-entry-preserved
+loop-entry-preserved g c =
+    let i = c.loop-entry.entry-index in
+    c.put_named.ensures ∙ rw (c.loop-entry.invariant, c.from.ensures, entries_next c.args.es.now i (omega arith), append_assoc)

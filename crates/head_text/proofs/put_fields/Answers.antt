@@ -1,95 +1,65 @@
--- The lines, three by three.
+-- The lines, three by three. The gain is passed by its bits.
 use Prim.Native.Nat.{ℕ}
 use native.Mathlib.Omega.{arith}
-use mathlib.Core.Path.{sym}
-use lib.ListN.{get_or, take}
+use mathlib.Core.Path.{◌≡◌, sym, ap}
+use mathlib.Core.List.{List}
+use lib.IntN.{ℤ}
+use lib.ListN.{length, get_or, length-append}
 use lib.Seq.{length-take-le}
-use mir.Syntax.{w8}
-use mir.Val.{Fits}
+use mir.Syntax.{w8, w16, w32}
+use mir.Val.{Fits, SFits}
+use mir.ValLaws.{to_z-of_z}
+use borrow.Author.Rules.{rules}
 use Rattle.opus_head.specs.Heads.{InRange}
 use Rattle.opus_head.specs.Parts.{fields_of}
-use Rattle.opus_head.specs.declared.OpusHead.{OpusHead}
-use Rattle.show.proofs.Laid.{Laid, Three, front_laid, front_ends, first_room, second_room, third_room, three_laid}
-use Rattle.head_text.specs.Text.{opening_lines, sound_lines, stream_lines, head_lines}
-use Rattle.head_text.proofs.Texts.{passed, head_parts}
-use Rattle.head_text.proofs.Room.{entries-within, lines_most}
+use Rattle.show.proofs.Built.{three_put}
+use Rattle.head_text.specs.Text.{head_lines}
+use Rattle.head_text.proofs.Room.{entries-within, parts_most}
 use Rattle.head_text.proofs.put_fields.Goals as goal
-use Rattle.head_text.proofs.put_fields.Goals.{Start}
-
-abbrev fields : Start → OpusHead
-fields c =
-    let a = c.args in
-    fields_of a.version a.channels a.skip a.rate a.gain a.family a.streams a.coupled a.mapping.now
 
 -- what the types say
-ranges : (c : Start) → ((i : ℕ) → Fits w8 (get_or c.args.mapping.now i 0)) → InRange (fields c)
-ranges c k =
-    let f = c.ranges in
+in_range : {version channels skip rate family streams coupled : ℕ} {gain : ℤ} {mapping : List ℕ} → Fits w8 version → Fits w8 channels → Fits w16 skip
+    → Fits w32 rate → SFits w16 gain → Fits w8 family → Fits w8 streams → Fits w8 coupled → ((i : ℕ) → Fits w8 (get_or mapping i 0)) → length mapping ≡ 255
+    → InRange (fields_of version channels skip rate gain family streams coupled mapping)
+in_range v c s r g f t k es n =
     record {
-      version = f.version.fits;
-      channels = f.channels.fits;
-      pre_skip = f.skip.fits;
-      rate = f.rate.fits;
-      gain = f.gain.sfits;
-      family = f.family.fits;
-      streams = f.streams.fits;
-      coupled = f.coupled.fits;
-      entries = record { byte = λ i. (k i).fits };
-      entry_count = c.requires.0;
+      version = v.fits;
+      channels = c.fits;
+      pre_skip = s.fits;
+      rate = r.fits;
+      gain = g.sfits;
+      family = f.fits;
+      streams = t.fits;
+      coupled = k.fits;
+      entries = record { byte = λ i. (es i).fits };
+      entry_count = n;
     }
 
-parts : (c : Start) → ((i : ℕ) → Fits w8 (get_or c.args.mapping.now i 0))
-    → let h = fields c in
-    Three c.args.out.now 0 (head_lines h) (opening_lines h.version h.channels h.pre_skip)
-    (sound_lines h.rate (passed h.gain) h.family) (stream_lines h.streams h.coupled (take h.channels h.mapping))
-parts c k =
-    head_parts c.args.out.now (fields c) c.ranges.gain (omega (arith, lines_most (fields c) (ranges c k), c.requires.1))
+pub put_opening-requires : goal.put_opening-requires
+put_opening-requires g c =
+    let f = c.ranges in
+    let m = parts_most _ (in_range f.version f.channels f.skip f.rate f.gain f.family f.streams f.coupled c.type_inv.mapping c.requires.0) in
+    (search rules, omega (arith, m, c.requires.1))
 
-pub put_opening-next-requires : goal.put_opening-next-requires
-put_opening-next-requires c =
-    let w = parts (goal.at.put_opening-next-requires c).Start c.type_inv.mapping in
-    omega (arith, first_room w)
-
-pub put_sound-next-requires : goal.put_sound-next-requires
-put_sound-next-requires c =
-    let s = (goal.at.put_sound-next-requires c).Start in
-    let h = fields s in
-    let w = parts s c.type_inv.mapping in
-    let p = c.put_opening-next in
-    let one : Laid c.args.out.now 0 (opening_lines h.version h.channels h.pre_skip) p.new.out p.result =
-    front_laid c.args.out.now (opening_lines h.version h.channels h.pre_skip) p.ensures.bytes p.ensures.next in
-    second_room w one
+pub put_sound-requires : goal.put_sound-requires
+put_sound-requires g c =
+    let f = c.ranges in
+    let m = parts_most _ (in_range f.version f.channels f.skip f.rate f.gain f.family f.streams f.coupled c.type_inv.mapping c.requires.0) in
+    (search rules, rw (to_z-of_z w16 c.args.gain f.gain) (omega (arith, ap length c.put_opening.ensures, length-append {A = ℕ}, m, c.requires.1)))
 
 pub slice_bounds-put_streams-end : goal.slice_bounds-put_streams-end
-slice_bounds-put_streams-end c =
-    let s = (goal.at.slice_bounds-put_streams-end c).Start in
-    let h = fields s in
-    sym (length-take-le h.channels h.mapping (entries-within h (ranges s c.type_inv.mapping)))
+slice_bounds-put_streams-end g c =
+    let f = c.ranges in
+    let r = in_range f.version f.channels f.skip f.rate f.gain f.family f.streams f.coupled c.type_inv.mapping c.requires.0 in
+    sym (length-take-le _ _ (entries-within _ r))
 
 pub put_streams-requires : goal.put_streams-requires
-put_streams-requires c =
-    let s = (goal.at.put_streams-requires c).Start in
-    let h = fields s in
-    let w = parts s c.type_inv.mapping in
-    let p = c.put_opening-next in
-    let q = c.put_sound-next in
-    let one : Laid c.args.out.now 0 (opening_lines h.version h.channels h.pre_skip) p.new.out p.result =
-    front_laid c.args.out.now (opening_lines h.version h.channels h.pre_skip) p.ensures.bytes p.ensures.next in
-    let two : Laid p.new.out p.result (sound_lines h.rate (passed h.gain) h.family) q.new.out q.result =
-    record { bytes = q.ensures.bytes; place = q.ensures.next } in
-    third_room w one two
+put_streams-requires g c =
+    let f = c.ranges in
+    let m = parts_most _ (in_range f.version f.channels f.skip f.rate f.gain f.family f.streams f.coupled c.type_inv.mapping c.requires.0) in
+    let s = rw (to_z-of_z w16 c.args.gain f.gain) at c.put_sound.ensures in
+    (search rules, omega (arith, ap length s, ap length c.put_opening.ensures, length-append {A = ℕ}, m, c.requires.1))
 
 pub returns : goal.returns
-returns c =
-    let s = (goal.at.returns c).Start in
-    let h = fields s in
-    let w = parts s c.type_inv.mapping in
-    let p = c.put_opening-next in
-    let q = c.put_sound-next in
-    let one : Laid c.args.out.now 0 (opening_lines h.version h.channels h.pre_skip) p.new.out p.result =
-    front_laid c.args.out.now (opening_lines h.version h.channels h.pre_skip) p.ensures.bytes p.ensures.next in
-    let two : Laid p.new.out p.result (sound_lines h.rate (passed h.gain) h.family) q.new.out q.result =
-    record { bytes = q.ensures.bytes; place = q.ensures.next } in
-    let r = c.put_streams in
-    let e = front_ends (three_laid w one two (record { bytes = r.ensures.bytes; place = r.ensures.next })) in
-    record { bytes = e.0; next = e.1; within = omega (arith, e.1, w.room) }
+unfolding head_lines
+returns g c = three_put _ _ _ _ c.put_opening.ensures (rw (to_z-of_z w16 c.args.gain c.ranges.gain) at c.put_sound.ensures) c.put_streams.ensures

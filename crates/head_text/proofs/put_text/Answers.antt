@@ -1,20 +1,19 @@
--- `head_text::put_text` meets its contract: the fields that were read, or the refusal's number.
-use Rattle.head_text.specs.Text.{head_lines}
-use Rattle.head_text.proofs.Answers.{text_read, text_refused, said, refused_room, said_refused}
+-- The fields that were read, or the refusal's number.
+use native.Mathlib.Omega.{arith}
+use borrow.Author.Rules.{rules}
+use Rattle.show.proofs.Refusals.{refusal_most}
+use Rattle.head_text.proofs.Answers.{text_read, text_refused, number_is}
 use Rattle.head_text.proofs.put_text.Goals as goal
 
 pub put_refused-requires : goal.put_refused-requires
-put_refused-requires c =
-    refused_room c.args.out.now c.requires c.in-Refused.e c.refusal_number.ensures
+put_refused-requires g c =
+    (search rules, rw (number_is c.in-Err.e c.refusal_number.ensures) (omega (arith, refusal_most c.in-Err.e, c.requires)))
 
-pub returns-in-Accepted : goal.returns-in-Accepted
-returns-in-Accepted c =
-    let whole = said c.args.out.now c.args.«data».now (head_lines c.head_read-read.result.head)
-    (text_read c.args.«data».now c.head_read-read.result c.head_read-read.ensures c.in-Accepted.is) c.put_head.ensures.bytes c.put_head.ensures.next
-    c.put_head.ensures.within in record { bytes = whole.0; next = whole.1.0; within = whole.1.1 }
+pub returns-in-Ok : goal.returns-in-Ok
+returns-in-Ok g c =
+    rw (text_read c.args.«data».now c.head_read-read.result c.head_read-read.ensures c.in-Ok.is) c.put_head.ensures
 
-pub returns-in-Refused : goal.returns-in-Refused
-returns-in-Refused c =
-    let whole = said_refused c.args.out.now c.requires c.in-Refused.e c.refusal_number.ensures c.args.«data».now
-    (text_refused c.args.«data».now c.head_read-read.result c.head_read-read.ensures c.in-Refused.e c.in-Refused.is)
-    c.put_refused.ensures.bytes c.put_refused.ensures.next in record { bytes = whole.0; next = whole.1.0; within = whole.1.1 }
+pub returns-in-Err : goal.returns-in-Err
+returns-in-Err g c =
+    rw (text_refused c.args.«data».now c.head_read-read.result c.head_read-read.ensures c.in-Err.e c.in-Err.is)
+    (rw (number_is c.in-Err.e c.refusal_number.ensures) at c.put_refused.ensures)

@@ -3,17 +3,17 @@ use mathlib.Core.Path.{refl, sym}
 use Rattle.judge_text.proofs.Ends.{going_start, going_less, going_on}
 use Rattle.judge_text.proofs.print.Goals as goal
 
-pub loop-done-init : goal.loop-done-init
-loop-done-init c =
+pub parts-init : goal.parts-init
+parts-init c =
     going_start c.args.«data».now _ refl
 
 pub slice_bounds-put_part-end : goal.slice_bounds-put_part-end
 slice_bounds-put_part-end c =
-    sym c.loop-done.invariant.long
+    sym c.parts.invariant.long
 
 pub put_part-l-requires : goal.put_part-l-requires
 put_part-l-requires c =
-    (c.loop-done.invariant.fine.inside, c.loop-done.invariant.fine.few)
+    (c.parts.invariant.fine.inside, c.parts.invariant.fine.few)
 
 pub slice_bounds-out-end : goal.slice_bounds-out-end
 slice_bounds-out-end c =
@@ -23,9 +23,9 @@ pub slice_bounds-print-end : goal.slice_bounds-print-end
 slice_bounds-print-end c =
     c.put_part-l.ensures.within.1
 
-pub loop-done-smaller : goal.loop-done-smaller
-loop-done-smaller c = going_less c.loop-done.invariant c.put_part-l.ensures.lines c.loop-done.done c.loop-done-test.true
+pub parts-smaller : goal.parts-smaller
+parts-smaller c = rw c.if-l.false at (going_less c.parts.invariant c.put_part-l.ensures.lines)
 
-pub loop-done-preserved : goal.loop-done-preserved
-loop-done-preserved c =
-    going_on c.loop-done.invariant c.put_part-l.ensures.lines c.put_part-l.ensures.bytes
+pub parts-preserved : goal.parts-preserved
+parts-preserved c =
+    going_on c.parts.invariant c.put_part-l.ensures.lines c.put_part-l.ensures.bytes

@@ -1,5 +1,5 @@
 -- `listing_text::put_frames` meets its contract. The invariant of its loop: the lines of the first i frames are put, and `place` is where
--- frame i stands. The measure is the lengths left.
+-- frame i stands.
 use native.Mathlib.Omega.{arith}
 use mathlib.Core.Path.{refl}
 use Rattle.show.proofs.Laid.{laid_ends}
@@ -12,15 +12,15 @@ loop-i-init c =
 
 pub put_frame-next-requires : goal.put_frame-next-requires
 put_frame-next-requires c =
-    put_room c.loop-i.invariant c.wide-n.ensures.0 (omega arith) c.requires.room
+    put_room c.loop-i.invariant c.from-n.ensures (omega arith) c.requires.room
 
 pub overflow_add-place : goal.overflow_add-place
 overflow_add-place c =
-    omega (arith, put_place c.loop-i.invariant c.wide-n.ensures.0 (omega arith) c.requires.places)
+    omega (arith, put_place c.loop-i.invariant c.from-n.ensures (omega arith) c.requires.places)
 
 pub loop-i-preserved : goal.loop-i-preserved
 loop-i-preserved c =
-    put_more c.loop-i.invariant c.wide-n.ensures.0 (omega arith) (record { bytes = c.put_frame-next.ensures.bytes; place = c.put_frame-next.ensures.next })
+    put_more c.loop-i.invariant c.from-n.ensures (omega arith) (record { bytes = c.put_frame-next.ensures.bytes; place = c.put_frame-next.ensures.next })
 
 pub shape_of-out : goal.shape_of-out
 shape_of-out c =

@@ -4,16 +4,16 @@ use Rattle.multistream.proofs.further_on.Goals as goal
 
 pub overflow_add-result : goal.overflow_add-result
 overflow_add-result c =
-    omega (arith, rw c.in-Past.is at c.requires)
+    omega (arith, rw c.in-Ok.is at c.requires)
 
 pub shift-requires : goal.shift-requires
 shift-requires c =
-    omega (arith, rw c.in-Stuck.is at c.requires)
+    omega (arith, rw c.in-Err.is at c.requires)
 
-pub returns-in-Past : goal.returns-in-Past
-returns-in-Past c =
-    rw c.in-Past.is
+pub returns-in-Ok : goal.returns-in-Ok
+returns-in-Ok c =
+    rw c.in-Ok.is
 
-pub returns-in-Stuck : goal.returns-in-Stuck
-returns-in-Stuck c =
-    rw (c.in-Stuck.is, c.shift.ensures)
+pub returns-in-Err : goal.returns-in-Err
+returns-in-Err c =
+    rw (c.in-Err.is, c.shift.ensures)

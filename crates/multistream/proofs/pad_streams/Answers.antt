@@ -23,17 +23,17 @@ pub pad_last-requires : goal.pad_last-requires
 pad_last-requires c =
     let packet = take c.args.len c.args.«data».now in
     let bytes = bytes_take c.args.len c.args.«data».now (record { byte = λ i. (c.slice_known-1.given i).fits }) in
-    let h = pass_within (c.args.streams - 1) packet c.in-Past.at bytes (sym c.pass_streams-p.ensures ∙ c.in-Past.is) in
+    let h = pass_within (c.args.streams - 1) packet c.in-Ok.at bytes (sym c.pass_streams-p.ensures ∙ c.in-Ok.is) in
     (omega (arith, h, length-take c.args.len c.args.«data».now), c.requires.0, c.requires.1, c.requires.2)
 
-pub returns-in-Past : goal.returns-in-Past
-returns-in-Past c =
+pub returns-in-Ok : goal.returns-in-Ok
+returns-in-Ok c =
     let packet = take c.args.len c.args.«data».now in
-    let is = pad_last_lem packet c.args.streams c.args.new_len c.in-Past.at (sym c.pass_streams-p.ensures ∙ c.in-Past.is) in
+    let is = pad_last_lem packet c.args.streams c.args.new_len c.in-Ok.at (sym c.pass_streams-p.ensures ∙ c.in-Ok.is) in
     let whole = meets (ap (leaves c.args.«data».now) is) c.pad_last.ensures.report c.pad_last.ensures.bytes in record { report = whole.0; bytes = whole.1 }
 
-pub returns-in-Stuck : goal.returns-in-Stuck
-returns-in-Stuck c =
+pub returns-in-Err : goal.returns-in-Err
+returns-in-Err c =
     let packet = take c.args.len c.args.«data».now in let whole = meets
-    (ap (leaves c.args.«data».now) (pad_stuck packet c.args.streams c.args.new_len _ (sym c.pass_streams-p.ensures ∙ c.in-Stuck.is))) refl refl in
+    (ap (leaves c.args.«data».now) (pad_stuck packet c.args.streams c.args.new_len _ (sym c.pass_streams-p.ensures ∙ c.in-Err.is))) refl refl in
     record { report = whole.0; bytes = whole.1 }

@@ -18,26 +18,26 @@ returns-in_default c =
 pub slice_bounds-pass_stream-count : goal.slice_bounds-pass_stream-count
 slice_bounds-pass_stream-count c =
     pass_within c.args.k c.args.«data».now _ (record { byte = λ j. (c.shared_slice_known-1.given j).fits })
-    (sym c.pass_streams-p.ensures ∙ c.in-Past.is)
+    (sym c.pass_streams-p.ensures ∙ c.in-Ok.is)
 
 pub pass_stream-last-requires : goal.pass_stream-last-requires
 pass_stream-last-requires c =
-    part-short c.args.«data».now c.in-Past.at 65535 c.requires
+    part-short c.args.«data».now c.in-Ok.at 65535 c.requires
 
 pub further_on-requires : goal.further_on-requires
 further_on-requires c =
     let bytes : Bytes c.args.«data».now = record { byte = λ j. (c.shared_slice_known-1.given j).fits } in
-    let inside = pass_within c.args.k c.args.«data».now c.in-Past.at bytes (sym c.pass_streams-p.ensures ∙ c.in-Past.is) in
-    omega (arith, reach_lent false c.args.«data».now c.in-Past.at bytes inside c.pass_stream-last.ensures, c.requires)
+    let inside = pass_within c.args.k c.args.«data».now c.in-Ok.at bytes (sym c.pass_streams-p.ensures ∙ c.in-Ok.is) in
+    omega (arith, reach_lent false c.args.«data».now c.in-Ok.at bytes inside c.pass_stream-last.ensures, c.requires)
 
 pub slice_bounds-pass_stream-start : goal.slice_bounds-pass_stream-start
 slice_bounds-pass_stream-start c =
     let inside = pass_within c.args.k c.args.«data».now _ (record { byte = λ j. (c.shared_slice_known-1.given j).fits })
-    (sym c.pass_streams-p.ensures ∙ c.in-Past.is) in
+    (sym c.pass_streams-p.ensures ∙ c.in-Ok.is) in
     search rules
 
 pub returns : goal.returns
 returns c =
-    let is = all-last c.args.k c.args.«data».now c.in-Past.at (sym c.pass_streams-p.ensures ∙ c.in-Past.is) in
-    let last = rw (part_to_end c.args.«data».now c.in-Past.at) at c.pass_stream-last.ensures in
-    ap verdict_by (c.further_on.ensures ∙ ap (further c.in-Past.at) last) ∙ is
+    let is = all-last c.args.k c.args.«data».now c.in-Ok.at (sym c.pass_streams-p.ensures ∙ c.in-Ok.is) in
+    let last = rw (part_to_end c.args.«data».now c.in-Ok.at) at c.pass_stream-last.ensures in
+    ap verdict_by (c.further_on.ensures ∙ ap (further c.in-Ok.at) last) ∙ is

@@ -1,13 +1,12 @@
 -- `multistream::pass_stream` meets its contract: the stream is read.
-use Rattle.opus.specs.Answers.{answer_of}
+use Rattle.opus.proofs.Lent.{lent_accepted, lent_refused}
 use Rattle.multistream.proofs.Passing.{pass_found, pass_refused}
 use Rattle.multistream.proofs.pass_stream.Goals as goal
 
-pub returns-in_default : goal.returns-in_default
-returns-in_default c =
-    pass_found c.args.self_delimited c.args.«data».now (answer_of c.read_into-p.result c.read_into-p.new.lengths) c.read_into-p.ensures c.in_default.is
+pub returns-in-Ok : goal.returns-in-Ok
+returns-in-Ok c =
+    pass_found _ _ _ (lent_accepted _ _ _ _ c.read_into.ensures _ c.in-Ok.is)
 
-pub returns : goal.returns
-returns c =
-    let p = answer_of c.read_into-p.result c.read_into-p.new.lengths in
-    pass_refused c.args.self_delimited c.args.«data».now p c.read_into-p.ensures _ c.in-Refused.is c.requires
+pub returns-in-Err : goal.returns-in-Err
+returns-in-Err c =
+    pass_refused _ _ _ (lent_refused _ _ _ _ c.read_into.ensures _ c.in-Err.is) c.requires

@@ -5,35 +5,33 @@ use mathlib.Core.Path.{◌≡◌, sym}
 use lib.ListN.{drop}
 use lib.Seq.{length-take-le}
 use Rattle.laws.specs.Bytes.{Bytes}
-use Rattle.opus.specs.Answers.{parsed}
+use Rattle.opus.specs.Answers.{parsed, packet_with}
 use Rattle.opus.specs.declared.Packet.{Packet}
-use Rattle.opus.proofs.Lent.{packet_with}
+use Rattle.std.specs.Prelude.{Ok}
+use Rattle.opus.proofs.Lent.{lent_accepted}
 use Rattle.packet_pad.proofs.Framed.{Lies}
 use Rattle.multistream.specs.Parts.{stream}
-use Rattle.multistream.proofs.Repacking.{lent_read, lying, taken_fits, rewrite_fits, rewritten}
+use Rattle.multistream.proofs.Repacking.{lent_ok, stream_short, lying, taken_fits, rewrite_fits, rewritten}
 use Rattle.multistream.proofs.repack_stream.Goals as goal
-use Rattle.multistream.proofs.repack_stream.Goals.{After-compact_frames-bytes, After-read_into-p}
+use Rattle.multistream.proofs.repack_stream.Goals.{After-compact_frames-bytes, After-unwrap-p}
 
 -- what was read
-abbrev reads : (c : After-read_into-p) → Packet
-reads c = packet_with c.read_into-p.result c.read_into-p.new.lengths
+abbrev reads : (c : After-unwrap-p) → Packet
+reads c = packet_with c.unwrap-p.result c.read_into.new.lengths
 
-answer : (c : After-read_into-p)
-    → reads c ≡ parsed c.args.self_delimited (stream c.args.«data».now c.args.from c.args.len)
-answer c =
-    lent_read c.args.self_delimited c.args.«data».now c.args.to c.args.from c.args.len c.requires.places c.requires.reads c.read_into-p.result
-    c.read_into-p.new.lengths
-    c.read_into-p.ensures
+answer : (c : After-unwrap-p)
+    → Ok (reads c) ≡ parsed c.args.self_delimited (stream c.args.«data».now c.args.from c.args.len)
+answer c = lent_accepted _ _ _ _ c.read_into.ensures _ c.unwrap-p.ensures
 
 -- how the stream's frames lie
-lies : (c : After-read_into-p)
+lies : (c : After-unwrap-p)
     → Lies c.args.self_delimited (drop c.args.from c.args.«data».now) (c.args.len - c.args.from) (reads c)
 lies c =
     lying c.args.self_delimited c.args.«data».now c.args.to c.args.from c.args.len c.requires.places c.requires.reads
     (record { byte = λ i. (c.slice_known-1.given i).fits })
     (reads c) (answer c)
 
-taken : (c : After-read_into-p) → c.args.from + c.read_into-p.result.taken ≤ c.args.len
+taken : (c : After-unwrap-p) → c.args.from + c.unwrap-p.result.taken ≤ c.args.len
 taken c =
     taken_fits c.args.self_delimited c.args.«data».now c.args.to c.args.from c.args.len c.requires.places c.requires.reads
     (record { byte = λ i. (c.slice_known-1.given i).fits }) (reads c) (answer c)
@@ -42,17 +40,20 @@ put : (c : After-compact_frames-bytes) → c.args.to + c.compact_frames-bytes.re
 put c =
     let bytes : Bytes c.args.«data».now = record { byte = λ i. (c.slice_known-1.given i).fits } in
     (rewritten c.args.self_delimited c.args.«data».now c.args.to c.args.from c.args.len c.requires.places c.requires.reads bytes
-    (packet_with c.read_into-p.result c.read_into-p.new.lengths)
-    (lent_read c.args.self_delimited c.args.«data».now c.args.to c.args.from c.args.len c.requires.places c.requires.reads c.read_into-p.result
-    c.read_into-p.new.lengths c.read_into-p.ensures) c.compact_frames-bytes.ensures.bytes
+    (packet_with c.unwrap-p.result c.read_into.new.lengths)
+    (lent_accepted _ _ _ _ c.read_into.ensures _ c.unwrap-p.ensures) c.compact_frames-bytes.ensures.bytes
     c.compact_frames-bytes.ensures.next).2
+
+pub unwrap-p-requires : goal.unwrap-p-requires
+unwrap-p-requires c =
+    lent_ok _ _ (stream_short c.args.«data».now c.args.from c.args.len c.requires.places.3) c.requires.reads _ _ c.read_into.ensures
 
 pub compact_frames-bytes-requires : goal.compact_frames-bytes-requires
 compact_frames-bytes-requires c =
     let bytes : Bytes c.args.«data».now = record { byte = λ i. (c.slice_known-1.given i).fits } in
     let w = rewrite_fits c.args.self_delimited c.args.«data».now c.args.to c.args.from c.args.len c.requires.places c.requires.reads bytes
-    (reads (goal.at.compact_frames-bytes-requires c).After-read_into-p) (answer (goal.at.compact_frames-bytes-requires c).After-read_into-p) in record {
-      some = (lies (goal.at.compact_frames-bytes-requires c).After-read_into-p).some;
+    (reads (goal.at.compact_frames-bytes-requires c).After-unwrap-p) (answer (goal.at.compact_frames-bytes-requires c).After-unwrap-p) in record {
+      some = (lies (goal.at.compact_frames-bytes-requires c).After-unwrap-p).some;
       block = w.0;
       short = w.1;
     }
@@ -62,7 +63,7 @@ returns c =
     let bytes : Bytes c.args.«data».now = record { byte = λ i. (c.slice_known-1.given i).fits } in
     let d =
     rewritten c.args.self_delimited c.args.«data».now c.args.to c.args.from c.args.len c.requires.places c.requires.reads bytes
-    (reads (goal.at.returns c).After-read_into-p) (answer (goal.at.returns c).After-read_into-p) c.compact_frames-bytes.ensures.bytes
+    (reads (goal.at.returns c).After-unwrap-p) (answer (goal.at.returns c).After-unwrap-p) c.compact_frames-bytes.ensures.bytes
     c.compact_frames-bytes.ensures.next in record {
       bytes = d.0;
       next = d.1;
@@ -70,15 +71,15 @@ returns c =
 
 pub overflow_add-first : goal.overflow_add-first
 overflow_add-first c =
-    omega (arith, (lies (goal.at.overflow_add-first c).After-read_into-p).within, c.requires.places)
+    omega (arith, (lies (goal.at.overflow_add-first c).After-unwrap-p).within, c.requires.places)
 
 pub slice_bounds-lengths-end : goal.slice_bounds-lengths-end
 slice_bounds-lengths-end c =
-    (lies (goal.at.slice_bounds-lengths-end c).After-read_into-p).inside
+    (lies (goal.at.slice_bounds-lengths-end c).After-unwrap-p).inside
 
 pub slice_bounds-ns-end : goal.slice_bounds-ns-end
 slice_bounds-ns-end c =
-    sym (length-take-le _ _ (lies (goal.at.slice_bounds-ns-end c).After-read_into-p).inside)
+    sym (length-take-le _ _ (lies (goal.at.slice_bounds-ns-end c).After-unwrap-p).inside)
 
 pub overflow_add-result : goal.overflow_add-result
 overflow_add-result c =
@@ -86,4 +87,4 @@ overflow_add-result c =
 
 pub overflow_add-result-2 : goal.overflow_add-result-2
 overflow_add-result-2 c =
-    omega (arith, taken (goal.at.overflow_add-result-2 c).After-read_into-p, c.requires.places)
+    omega (arith, taken (goal.at.overflow_add-result-2 c).After-unwrap-p, c.requires.places)

@@ -3,12 +3,12 @@ use Rattle.multistream.proofs.shift_answer.Goals as goal
 
 pub shift-requires : goal.shift-requires
 shift-requires c =
-    rw c.in-Refused.is at c.requires
+    rw c.in-Err.is at c.requires
 
-pub returns-in-Number : goal.returns-in-Number
-returns-in-Number c =
-    rw c.in-Number.is
+pub returns-in-Ok : goal.returns-in-Ok
+returns-in-Ok c =
+    rw c.in-Ok.is
 
-pub returns-in-Refused : goal.returns-in-Refused
-returns-in-Refused c =
-    rw (c.in-Refused.is, c.shift.ensures)
+pub returns-in-Err : goal.returns-in-Err
+returns-in-Err c =
+    rw (c.in-Err.is, c.shift.ensures)

@@ -24,7 +24,7 @@ pass_all-p-requires c =
 
 pub repack_streams-n-requires : goal.repack_streams-n-requires
 repack_streams-n-requires c =
-    (c.requires.0, c.requires.1, sym c.pass_all-p.ensures ∙ ap verdict_by c.in-Past.is)
+    (c.requires.0, c.requires.1, sym c.pass_all-p.ensures ∙ ap verdict_by c.in-Ok.is)
 
 pub overflow_cast-result : goal.overflow_cast-result
 overflow_cast-result c =
@@ -32,13 +32,13 @@ overflow_cast-result c =
     let h = packed-within (c.args.streams - 1) (take c.args.len c.args.«data».now) bytes in
     omega (arith, c.repack_streams-n.ensures.next, length-take c.args.len c.args.«data».now, c.requires)
 
-pub returns-in-Past : goal.returns-in-Past
-returns-in-Past c =
-    let is = unpad_all c.args.streams (take c.args.len c.args.«data».now) (sym c.pass_all-p.ensures ∙ ap verdict_by c.in-Past.is) in
+pub returns-in-Ok : goal.returns-in-Ok
+returns-in-Ok c =
+    let is = unpad_all c.args.streams (take c.args.len c.args.«data».now) (sym c.pass_all-p.ensures ∙ ap verdict_by c.in-Ok.is) in
     let whole = meets (ap (leaves c.args.«data».now) is) (ap (λ n. plain (pos n)) c.repack_streams-n.ensures.next) c.repack_streams-n.ensures.bytes
     in record { report = whole.0; bytes = whole.1 }
 
-pub returns-in-Stuck : goal.returns-in-Stuck
-returns-in-Stuck c =
-    let is = unpad_refused c.args.streams (take c.args.len c.args.«data».now) _ (sym c.pass_all-p.ensures ∙ ap verdict_by c.in-Stuck.is) in
+pub returns-in-Err : goal.returns-in-Err
+returns-in-Err c =
+    let is = unpad_refused c.args.streams (take c.args.len c.args.«data».now) _ (sym c.pass_all-p.ensures ∙ ap verdict_by c.in-Err.is) in
     let whole = meets (ap (leaves c.args.«data».now) is) refl refl in record { report = whole.0; bytes = whole.1 }

@@ -6,7 +6,7 @@ use Rattle.opus.proofs.read_into.Goals as goal
 
 pub returns-then-data-gt-MOST_PACKET : goal.returns-then-data-gt-MOST_PACKET
 returns-then-data-gt-MOST_PACKET c =
-    none-answered _ _ _ c.no_head.ensures ∙ parse_long c.args.self_delimited c.args.«data».now c.if-data-gt-MOST_PACKET.true
+    parse_long c.args.self_delimited c.args.«data».now c.if-data-gt-MOST_PACKET.true
 
 pub returns-then-data-eq0 : goal.returns-then-data-eq0
 returns-then-data-eq0 c =

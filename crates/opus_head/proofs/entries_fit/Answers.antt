@@ -1,7 +1,7 @@
 -- `opus_head::entries_fit` meets its contract. The invariant of its first loop: the entries passed fit, so the test is that of the rest. That of its second:
--- the test is what was seen so far together with that of the rest. The measures are what is left of the channels and of the mapping.
+-- the test is what was seen so far together with that of the rest.
 use native.Mathlib.Omega.{arith}
-use mathlib.Core.Path.{sym, ◌∙◌}
+use mathlib.Core.Path.{◌≡◌, sym, ◌∙◌}
 use Rattle.opus_head.proofs.Fitting.{entries_start, entry_passed, entry_refused, fits_end}
 use Rattle.opus_head.proofs.entries_fit.Goals as goal
 
@@ -25,7 +25,8 @@ loop-i-preserved c = (
 
 pub loop-i-2-init : goal.loop-i-2-init
 loop-i-2-init c =
-    (omega arith, c.loop-i.invariant.1)
+    let end : c.loop-i.i ≡ c.args.n = omega arith in
+    (omega arith, rw end at c.loop-i.invariant.1)
 
 pub returns : goal.returns
 returns c =

@@ -1,4 +1,4 @@
-use Prim.Native.Nat.{◌-◌, ◌≤◌}
+use Prim.Native.Nat.{◌≤◌}
 use mathlib.Core.Path.{◌≡◌}
 use mathlib.Core.Bool.{◌&&◌}
 use lib.ListN.{length}
@@ -9,11 +9,5 @@ use Rattle.opus_head.proofs.entries_fit.Given as goal
 abbrev pub invariant-loop-i : goal.invariant-loop-i
 invariant-loop-i l = (l.i ≤ l.n) × (entries_fit l.n l.sum l.mapping ≡ fit_from l.mapping l.n l.sum l.i)
 
-abbrev pub decreases-loop-i : goal.decreases-loop-i
-decreases-loop-i l = l.n - l.i
-
 abbrev pub invariant-loop-i-2 : goal.invariant-loop-i-2
 invariant-loop-i-2 l = ((l.n ≤ l.i) × (l.i ≤ length l.mapping)) × (entries_fit l.n l.sum l.mapping ≡ l.fits && fit_from l.mapping l.n l.sum l.i)
-
-abbrev pub decreases-loop-i-2 : goal.decreases-loop-i-2
-decreases-loop-i-2 l = length l.mapping - l.i

@@ -27,7 +27,7 @@ returns-then-n-gt-MOST_BYTES c =
     let back : to_z w32 (of_z w32 c.refusal_number-then-n-gt-MOST_BYTES.result) ≡ c.refusal_number-then-n-gt-MOST_BYTES.result = search rules in
     let law =
     encode_long c.args.size c.args.«data».now _
-    (counted c.args.size c.ranges.size c.count_of.ensures.is c.in-Is.is) c.if-n-gt-MOST_BYTES.true in record {
+    (counted c.args.size c.ranges.size c.count_of.ensures.is c.in-Some.is) c.if-n-gt-MOST_BYTES.true in record {
       number = back ∙ (c.refusal_number-then-n-gt-MOST_BYTES.ensures ∙ law.0);
       bytes = law.1;
     }
@@ -37,7 +37,7 @@ returns-then-data-size_bytes c =
     let back : to_z w32 (of_z w32 c.refusal_number-then-data-size_bytes.result) ≡ c.refusal_number-then-data-size_bytes.result = search rules in
     let law =
     encode_full c.args.size c.args.«data».now _
-    (counted c.args.size c.ranges.size c.count_of.ensures.is c.in-Is.is)
+    (counted c.args.size c.ranges.size c.count_of.ensures.is c.in-Some.is)
     c.if-n-gt-MOST_BYTES.false (omega (arith, c.size_bytes.ensures)) in record {
       number = back ∙ (c.refusal_number-then-data-size_bytes.ensures ∙ law.0);
       bytes = law.1;
@@ -45,14 +45,14 @@ returns-then-data-size_bytes c =
 
 pub overflow_cast-next : goal.overflow_cast-next
 overflow_cast-next c =
-    omega (arith, c.put_size-next.ensures.next, width c.in-Is.n)
+    omega (arith, c.put_size-next.ensures.next, width c.in-Some.n)
 
 pub returns : goal.returns
 returns c =
     let back : to_z w32 (of_z w32 c.number_of.result) ≡ c.number_of.result = search rules in
     let law =
-    encode_put c.args.size c.args.«data».now c.in-Is.n
-    (counted c.args.size c.ranges.size c.count_of.ensures.is c.in-Is.is)
+    encode_put c.args.size c.args.«data».now c.in-Some.n
+    (counted c.args.size c.ranges.size c.count_of.ensures.is c.in-Some.is)
     c.if-n-gt-MOST_BYTES.false (omega (arith, c.size_bytes.ensures)) in record {
       number = back ∙ (c.number_of.ensures ∙ (ap pos (c.put_size-next.ensures.next ∙ zero-add _) ∙ law.0));
       bytes = c.put_size-next.ensures.bytes ∙ law.1;

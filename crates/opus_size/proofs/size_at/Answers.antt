@@ -2,7 +2,7 @@
 -- Assumes nothing.
 use mathlib.Core.Path.{ap, ◌∙◌}
 use Prim.Native.Nat.{ℕ, ◌+◌}
-use Rattle.opus_size.specs.declared.SizeAt.TheVariants.{Whole}
+use Rattle.std.specs.Prelude.{Some}
 use Rattle.opus_size.proofs.At.{at_end, at_short, at_cut, at_long}
 use Rattle.opus_size.proofs.size_at.Goals as goal
 
@@ -20,5 +20,5 @@ returns-then-data-at-2 c =
 
 pub returns : goal.returns
 returns c =
-    ap (λ (n : ℕ). Whole n (c.args.at + 2)) c.two_bytes.ensures
+    ap (λ (n : ℕ). Some (n, c.args.at + 2)) c.two_bytes.ensures
     ∙ at_long _ _ c.if-data-at-2.false c.if-first-lt252.false

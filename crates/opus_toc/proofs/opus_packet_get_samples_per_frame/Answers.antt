@@ -22,4 +22,4 @@ returns c =
     ∙ (c.number_of.ensures
     ∙ (ap number_of c.samples_per_frame.ensures
     ∙ rate_natural _ c.args.rate _
-    (counted c.args.rate c.ranges.rate c.count_of.ensures.is c.in-Is.is)))
+    (counted c.args.rate c.ranges.rate c.count_of.ensures.is c.in-Some.is)))

@@ -1,5 +1,5 @@
 -- `packet_numbers::look` meets its contract.
-use Rattle.std.proofs.Common.{arith}
+use Rattle.std.proofs.Common.{refl, arith}
 use Rattle.packet_numbers.proofs.Numbering.{looked_first, looked_more, looked_all}
 use Rattle.packet_numbers.proofs.look.Goals as goal
 
@@ -10,7 +10,7 @@ loop-i-init c =
 pub loop-i-preserved : goal.loop-i-preserved
 loop-i-preserved c =
     looked_more c.args.ns.now c.args.ks.now c.requires.1 c.requires.2 c.loop-i.invariant (omega (arith, c.loop-i-test.true))
-    (c.type_inv.ks c.loop-i.i).fits c.wrapping_add_u16-sum.ensures.value c.excess-in-loop-i.ensures c.jump.ensures
+    (c.type_inv.ks c.loop-i.i).fits refl c.excess-in-loop-i.ensures c.jump.ensures
 
 pub returns : goal.returns
 returns c =

@@ -5,11 +5,11 @@ use Rattle.repacketizer.specs.Adding.{said_frames}
 use Rattle.repacketizer.proofs.Adds.{said_few}
 use Rattle.repacketizer.proofs.said_frames.Goals as goal
 
-pub returns-in-Number : goal.returns-in-Number
-returns-in-Number c =
-    let is = ap said_frames (sym c.in-Number.is ∙ c.nb_frames-a.ensures) in
+pub returns-in-Ok : goal.returns-in-Ok
+returns-in-Ok c =
+    let is = ap said_frames (sym c.in-Ok.is ∙ c.nb_frames-a.ensures) in
     (is, omega (arith, is, said_few c.args.«data».now))
 
-pub returns-in-Refused : goal.returns-in-Refused
-returns-in-Refused c =
-    (ap said_frames (sym c.in-Refused.is ∙ c.nb_frames-a.ensures), omega arith)
+pub returns-in-Err : goal.returns-in-Err
+returns-in-Err c =
+    (ap said_frames (sym c.in-Err.is ∙ c.nb_frames-a.ensures), omega arith)

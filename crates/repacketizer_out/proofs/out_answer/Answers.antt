@@ -93,8 +93,8 @@ returns-in_default-count_of c =
 pub returns : goal.returns
 returns c =
     let r = taken (goal.at.returns c).After-check-c in
-    let begins = is_natural c.args.begin _ (counted c.args.begin c.ranges.begin c.count_of.ensures.is c.in-Is.is) in
-    let ends = is_natural c.args.end _ (counted c.args.end c.ranges.end c.count_of-2.ensures.is c.in-Is-count_of.is) in
+    let begins = is_natural c.args.begin _ (counted c.args.begin c.ranges.begin c.count_of.ensures.is c.in-Some.is) in
+    let ends = is_natural c.args.end _ (counted c.args.end c.ranges.end c.count_of-2.ensures.is c.in-Some-count_of.is) in
     let whole = meets_number (ready (goal.at.returns c).Else-data-gt-MOST_PACKET ∙ frames_natural c.args.self_delimited c.args.pad (upper_six r.toc)
     (held r c.args.store.now) c.args.«data».now begins ends)
     c.out_frames.ensures.number c.out_frames.ensures.bytes in record { number = whole.0; bytes = whole.1 }

@@ -9,35 +9,35 @@ use Rattle.same.proofs.compare.Goals as goal
 pub slice_bounds-find_part-end : goal.slice_bounds-find_part-end
 slice_bounds-find_part-end g c =
     let w = c.loop-done.invariant.0 in
-    let r = c.read_part-p.ensures in
+    let r = c.in-Ok.ensures in
     let few = part-short w c.loop-done-test.true r.length r.part in
     omega arith
 
 pub slice_bounds-find_part-end-in-loop-done : goal.slice_bounds-find_part-end-in-loop-done
 slice_bounds-find_part-end-in-loop-done g c =
     let w = c.loop-done.invariant.0 in
-    let r = c.read_part-p.ensures in
+    let r = c.in-Ok.ensures in
     let few = part-short w c.loop-done-test.true r.length r.part in
     sym (length-take-le _ _ (omega arith))
 
-pub overflow_add-done-in-loop-done : goal.overflow_add-done-in-loop-done
-overflow_add-done-in-loop-done g c =
+pub overflow_add-done : goal.overflow_add-done
+overflow_add-done g c =
     let w = c.loop-done.invariant.0 in
-    let r = c.read_part-p.ensures in
+    let r = c.in-Ok.ensures in
     let few = part-short w c.loop-done-test.true r.length r.part in
     omega (arith, w.far)
 
 pub keep_rest-held-requires : goal.keep_rest-held-requires
 keep_rest-held-requires g c =
     let w = c.loop-done.invariant.0 in
-    let r = c.read_part-p.ensures in
+    let r = c.in-Ok.ensures in
     let few = part-short w c.loop-done-test.true r.length r.part in
     (few.0, few.1)
 
 pub loop-done-smaller : goal.loop-done-smaller
 loop-done-smaller g c =
     let w = c.loop-done.invariant.0 in
-    let r = c.read_part-p.ensures in
+    let r = c.in-Ok.ensures in
     let few = part-short w c.loop-done-test.true r.length r.part in
     let some = part_some w c.loop-done-test.true r.length r.part c.if-p.false in
     omega (arith, some, w.far)
@@ -45,12 +45,12 @@ loop-done-smaller g c =
 pub loop-done-preserved : goal.loop-done-preserved
 loop-done-preserved g c =
     let w = c.loop-done.invariant.0 in
-    let r = c.read_part-p.ensures in
+    let r = c.in-Ok.ensures in
     let few = part-short w c.loop-done-test.true r.length r.part in
-    let n = c.read_part-p.result.bytes in
-    let long : length (take n c.read_part-p.new.buf) ≡ n = length-take-le _ _ (omega arith) in
+    let n = c.in-Ok.part.bytes in
+    let long : length (take n c.read_part.new.buf) ≡ n = length-take-le _ _ (omega arith) in
     let k = c.keep_rest-held in
-    let f = c.find_part-m.ensures in (
+    let f = c.in_ok-m.ensures in (
       reads_on w c.loop-done-test.true r.length r.part c.if-p.false k.auto.buf k.ensures.held,
       omega (arith, f.few.0, f.length),
       omega (arith, c.loop-done.invariant.2, f.few.1, long),

@@ -7,7 +7,7 @@ pub returns-clause-few : goal.returns-clause-few
 returns-clause-few g c =
     let s = c.same_records-s in
     let e = s.ensures in
-    let k = c.read_on-input.ensures in (
+    let k = c.in-Ok.ensures in (
       omega (arith, c.keep_rest-left.ensures.held, k.within.0, k.length),
       seen_few c.args.«data».now _ s.result.all s.result.records s.result.bytes e.found e.all.0 e.all.1,
     )

@@ -1,12 +1,8 @@
 -- There is room for twenty digits.
-use Rattle.std.proofs.Common.{arith, rules}
-use Rattle.show.proofs.Digits.{text_room, text_put}
+use Rattle.std.proofs.Common.{arith, rules, ap}
+use lib.ListN.{length}
+use Rattle.show.proofs.Digits.{decimal_most}
 use Rattle.show.proofs.decimal_text.Goals as goal
 
 pub put_decimal-requires : goal.put_decimal-requires
-put_decimal-requires c = text_room c.args.out.now c.args.n (omega arith) (search rules)
-
-pub returns-clause-within : goal.returns-clause-within
-returns-clause-within c =
-    let p = c.put_decimal in
-    (text_put c.args.out.now c.args.n (omega arith) (search rules) p.ensures.bytes p.ensures.next).1.1
+put_decimal-requires c = (search rules, omega (arith, ap length c.new-digits.ensures, decimal_most c.args.n 19 (omega arith)))

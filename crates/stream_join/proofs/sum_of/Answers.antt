@@ -5,16 +5,16 @@ use Rattle.stream_join.proofs.sum_of.Goals as goal
 
 pub overflow_add-sum : goal.overflow_add-sum
 overflow_add-sum c =
-    omega (arith, c.loop-i.invariant.few, c.wide-sum.ensures.1, c.requires, c.loop-i-test.true)
+    omega (arith, c.loop-n.invariant.few, c.wide-sum.ensures.1, c.requires, c.loop-n-test.true)
 
-pub loop-i-preserved : goal.loop-i-preserved
-loop-i-preserved c =
-    summing_more c.args.lengths.now c.loop-i.sum c.loop-i.i c.loop-i.invariant c.loop-i-test.true c.wide-sum.result c.wide-sum.ensures
+pub loop-n-preserved : goal.loop-n-preserved
+loop-n-preserved c =
+    summing_more c.args.lengths.now c.loop-n.sum c.loop-n.n-index c.loop-n.invariant c.loop-n-test.true c.wide-sum.result c.wide-sum.ensures
 
 pub returns : goal.returns
 returns c =
-    summing_end c.args.lengths.now c.loop-i.sum c.loop-i.i c.loop-i.invariant c.loop-i-test.false
+    summing_end c.args.lengths.now c.loop-n.sum c.loop-n.n-index c.loop-n.invariant c.loop-n-test.false
 
-pub loop-i-init : goal.loop-i-init
-loop-i-init c =
+pub loop-n-init : goal.loop-n-init
+loop-n-init c =
     summing_start _

@@ -35,25 +35,25 @@ look_at-x-requires c =
 
 pub and_one-t-requires : goal.and_one-t-requires
 and_one-t-requires c =
-    (c.loop-i.invariant.few, omega (arith, c.loop-i-test.true, c.requires.0), rw c.in-Reads.is at c.look_at-x.ensures.small)
+    (c.loop-i.invariant.few, omega (arith, c.loop-i-test.true, c.requires.0), rw c.in-Ok.is at c.look_at-x.ensures.small)
 
 pub shift-requires : goal.shift-requires
 shift-requires c =
-    let p = look_place _ false _ _ (sym c.in-Unread.is ∙ c.look_at-x.ensures.says) in
+    let p = look_place _ false _ _ (sym c.in-Err.is ∙ c.look_at-x.ensures.says) in
     omega (arith, p, long (goal.at.shift-requires c).After-wide, within (goal.at.shift-requires c).After-wide, c.requires.1)
 
-pub returns-in-Unread : goal.returns-in-Unread
-returns-in-Unread c =
+pub returns-in-Err : goal.returns-in-Err
+returns-in-Err c =
     ap Stuck c.shift.ensures
     ∙ surveying_stuck c.args.«data».now c.args.lengths.now c.loop-i.t c.loop-i.at c.loop-i.i c.loop-i.invariant c.loop-i-test.true c.wide.result
     c.wide.ensures.0 _
-    (sym c.in-Unread.is ∙ c.look_at-x.ensures.says)
+    (sym c.in-Err.is ∙ c.look_at-x.ensures.says)
 
 pub loop-i-preserved : goal.loop-i-preserved
 loop-i-preserved c =
     surveying_more c.args.«data».now c.args.lengths.now c.loop-i.t c.loop-i.at c.loop-i.i c.loop-i.invariant c.loop-i-test.true c.wide.result
-    c.wide.ensures.0 _ _ _
-    (sym c.in-Reads.is ∙ c.look_at-x.ensures.says) (rw c.in-Reads.is at c.look_at-x.ensures.small) c.and_one-t.result
+    c.wide.ensures.0 _
+    (sym c.in-Ok.is ∙ c.look_at-x.ensures.says) (rw c.in-Ok.is at c.look_at-x.ensures.small) c.and_one-t.result
     c.and_one-t.ensures
 
 pub returns : goal.returns

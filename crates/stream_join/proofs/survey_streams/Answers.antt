@@ -14,31 +14,31 @@ look_at-x-requires c =
 
 pub and_one-t-requires : goal.and_one-t-requires
 and_one-t-requires c =
-    (c.loop-i.invariant.few, omega (arith, c.loop-i-test.true, c.requires.0), rw c.in-Reads.is at c.look_at-x.ensures.small)
+    (c.loop-i.invariant.few, omega (arith, c.loop-i-test.true, c.requires.0), rw c.in-Ok.is at c.look_at-x.ensures.small)
 
 pub shift-requires : goal.shift-requires
 shift-requires c =
-    let p = look_place _ _ _ _ (sym c.in-Unread.is ∙ c.look_at-x.ensures.says) in
+    let p = look_place _ _ _ _ (sym c.in-Err.is ∙ c.look_at-x.ensures.says) in
     omega (arith, p, lent_to_end_long c.args.«data».now c.loop-i.at, c.loop-i.invariant.inside, c.requires.1)
 
-pub returns-in-Unread : goal.returns-in-Unread
-returns-in-Unread c =
+pub returns-in-Err : goal.returns-in-Err
+returns-in-Err c =
     ap Stuck c.shift.ensures
     ∙ streaming_stuck c.args.«data».now c.args.n c.loop-i.t c.loop-i.at c.loop-i.i c.loop-i.invariant c.loop-i-test.true _
-    (sym c.in-Unread.is ∙ c.look_at-x.ensures.says)
+    (sym c.in-Err.is ∙ c.look_at-x.ensures.says)
 
 pub overflow_add-at : goal.overflow_add-at
 overflow_add-at c =
     let bytes : Bytes c.args.«data».now = record { byte = λ i. (c.shared_slice_known-1.given i).fits } in
-    let w = streaming_within c.args.«data».now c.args.n c.loop-i.t c.loop-i.at c.loop-i.i c.loop-i.invariant c.loop-i-test.true bytes _ _ _
-    (sym c.in-Reads.is ∙ c.look_at-x.ensures.says) in
+    let w = streaming_within c.args.«data».now c.args.n c.loop-i.t c.loop-i.at c.loop-i.i c.loop-i.invariant c.loop-i-test.true bytes _
+    (sym c.in-Ok.is ∙ c.look_at-x.ensures.says) in
     omega (arith, w, c.requires.1)
 
 pub loop-i-preserved : goal.loop-i-preserved
 loop-i-preserved c =
     streaming_more c.args.«data».now c.args.n c.loop-i.t c.loop-i.at c.loop-i.i c.loop-i.invariant c.loop-i-test.true
-    (record { byte = λ i. (c.shared_slice_known-1.given i).fits }) _ _ _ (sym c.in-Reads.is ∙ c.look_at-x.ensures.says)
-    (rw c.in-Reads.is at c.look_at-x.ensures.small) c.and_one-t.result c.and_one-t.ensures
+    (record { byte = λ i. (c.shared_slice_known-1.given i).fits }) _ (sym c.in-Ok.is ∙ c.look_at-x.ensures.says)
+    (rw c.in-Ok.is at c.look_at-x.ensures.small) c.and_one-t.result c.and_one-t.ensures
 
 pub returns : goal.returns
 returns c =

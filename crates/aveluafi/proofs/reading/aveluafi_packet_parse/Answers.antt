@@ -13,9 +13,10 @@ use Rattle.opus.specs.Answers.{answer_of, parsed}
 use Rattle.opus.proofs.AtPacket.{parse_read}
 use Rattle.opus.proofs.AtShort.{ShortRead, one_read, two_read, none_read, counted_some}
 use Rattle.opus.proofs.AtEqual.{EqualRead, same_read, wrong_read}
+use Rattle.opus.proofs.Lent.{lent_accepted, lent_refused}
 use Rattle.aveluafi.proofs.Records.{read_few, record_read, record_unread, one_record, two_record, same_record, long_record, broken_record}
 use Rattle.aveluafi.proofs.reading.aveluafi_packet_parse.Goals as goal
-use Rattle.aveluafi.proofs.reading.aveluafi_packet_parse.Goals.{After-read_packet-p, After-short_at-s, In-Broken, In-One, In-Same, In-Two, In-Wrong}
+use Rattle.aveluafi.proofs.reading.aveluafi_packet_parse.Goals.{After-read_packet, After-short_at-s, In-Broken, In-One, In-Same, In-Two, In-Wrong}
 
 one : (c : In-One)
     → ShortRead c.args.«data».now (c.in-One.n ∷ []) c.in-One.first
@@ -44,9 +45,9 @@ wrong c =
     wrong_read c.args.«data».now (record { byte = λ i. (c.shared_slice_known-1.given i).fits }) c.equal_at-e.result c.equal_at-e.ensures _ _ c.in-Wrong.is
 
 -- what was read is what is to be answered
-answered : (c : After-read_packet-p) → answer_of c.read_packet-p.result c.read_packet-p.new.lengths ≡ parsed false c.args.«data».now
+answered : (c : After-read_packet) → answer_of c.read_packet.result c.read_packet.new.lengths ≡ parsed false c.args.«data».now
 answered c =
-    c.read_packet-p.ensures ∙ parse_read false _ (omega (arith, c.if-data-gt-MOST_PACKET-2.false))
+    c.read_packet.ensures ∙ parse_read false _ (omega (arith, c.if-data-gt-MOST_PACKET-2.false))
 
 pub bounds-data-0 : goal.bounds-data-0
 bounds-data-0 c =
@@ -110,8 +111,8 @@ returns-in-Wrong c =
     c.no_packet-in-Wrong.ensures
     ∙ broken_record false c.args.«data».now c.if-data-gt-MOST_PACKET-2.false _ _ (wrong (goal.at.returns-in-Wrong c).In-Wrong) c.rule_refusal-in-Wrong.ensures
 
-pub read_packet-p-requires : goal.read_packet-p-requires
-read_packet-p-requires c =
+pub read_packet-requires : goal.read_packet-requires
+read_packet-requires c =
     let some = counted_some false _ (sym c.in-Counted.is ∙ c.short_at-s.ensures) in record {
       in_bounds = (omega (arith, some), omega (arith, c.if-data-gt-MOST_PACKET-2.false));
       zeros = search rules;
@@ -119,18 +120,13 @@ read_packet-p-requires c =
 
 pub whole_packet-requires : goal.whole_packet-requires
 whole_packet-requires c =
-    omega (
-      arith,
-      read_few false c.args.«data».now c.read_packet-p.result c.read_packet-p.new.lengths
-          (record { byte = λ i. (c.type_inv.«data» i).fits }) (answered (goal.at.whole_packet-requires c).After-read_packet-p),
-    )
+    let e = answered (goal.at.whole_packet-requires c).After-read_packet in
+    omega (arith, read_few _ _ _ _ (lent_accepted _ _ _ _ e _ c.in-Ok.is) (record { byte = λ i. (c.type_inv.«data» i).fits }))
 
-pub returns-in_default : goal.returns-in_default
-returns-in_default c =
-    c.whole_packet.ensures ∙ record_read false c.args.«data».now c.read_packet-p.result c.read_packet-p.new.lengths
-    (answered (goal.at.returns-in_default c).After-read_packet-p) c.in_default.is
+pub returns-in-Ok : goal.returns-in-Ok
+returns-in-Ok c =
+    c.whole_packet.ensures ∙ record_read _ _ _ _ (lent_accepted _ _ _ _ (answered (goal.at.returns-in-Ok c).After-read_packet) _ c.in-Ok.is)
 
-pub returns : goal.returns
-returns c =
-    c.no_packet-2.ensures ∙ record_unread false c.args.«data».now c.read_packet-p.result c.read_packet-p.new.lengths
-    (answered (goal.at.returns c).After-read_packet-p) c.in-Refused.is
+pub returns-in-Err : goal.returns-in-Err
+returns-in-Err c =
+    c.no_packet-in-Err.ensures ∙ record_unread _ _ (lent_refused _ _ _ _ (answered (goal.at.returns-in-Err c).After-read_packet) _ c.in-Err.is)

@@ -7,6 +7,7 @@ use Rattle.opus_format.specs.Reading.{refused, read}
 use Rattle.opus_format.proofs.Within.{refused_within}
 use Rattle.opus.specs.Answers.{short_at}
 use Rattle.opus.proofs.AtShort.{Seen, one_seen, two_seen, none_read, one_ends, two_ends}
+use Rattle.opus.proofs.Lent.{lent_accepted, lent_refused}
 use Rattle.aveluafi.proofs.Records.{read_few, record_read, record_unread, one_record, two_record, long_record, broken_record}
 use Rattle.aveluafi.proofs.reading.aveluafi_packet_parse_impl.Goals as goal
 use Rattle.aveluafi.proofs.reading.aveluafi_packet_parse_impl.Goals.{After-own_at-s, Else-data-gt-MOST_PACKET, In-Broken, In-One, In-Two}
@@ -85,16 +86,13 @@ pub whole_packet-requires : goal.whole_packet-requires
 whole_packet-requires c =
     omega (
       arith,
-      read_few c.args.self_delimited c.args.«data».now c.read_into-p.result c.read_into-p.new.lengths
-          (record { byte = λ i. (c.type_inv.«data» i).fits }) c.read_into-p.ensures,
+      read_few _ _ _ _ (lent_accepted _ _ _ _ c.read_into.ensures _ c.in-Ok.is) (record { byte = λ i. (c.type_inv.«data» i).fits }),
     )
 
-pub returns-in_default : goal.returns-in_default
-returns-in_default c =
-    c.whole_packet.ensures
-    ∙ record_read c.args.self_delimited c.args.«data».now c.read_into-p.result c.read_into-p.new.lengths c.read_into-p.ensures c.in_default.is
+pub returns-in-Ok : goal.returns-in-Ok
+returns-in-Ok c =
+    c.whole_packet.ensures ∙ record_read _ _ _ _ (lent_accepted _ _ _ _ c.read_into.ensures _ c.in-Ok.is)
 
-pub returns : goal.returns
-returns c =
-    c.no_packet-2.ensures ∙ record_unread c.args.self_delimited c.args.«data».now c.read_into-p.result c.read_into-p.new.lengths
-    c.read_into-p.ensures c.in-Refused.is
+pub returns-in-Err : goal.returns-in-Err
+returns-in-Err c =
+    c.no_packet-in-Err.ensures ∙ record_unread _ _ (lent_refused _ _ _ _ c.read_into.ensures _ c.in-Err.is)

@@ -1,12 +1,12 @@
--- `aveluafi::reading::size_record` meets its contract: the verdict becomes its report.
-use native.Mathlib.Omega.{arith}
-use Rattle.aveluafi.proofs.Records.{size_reported}
+-- `aveluafi::reading::size_record` meets its contract: a count or a refusal becomes its report.
+use mathlib.Core.Path.{◌∙◌}
+use Rattle.aveluafi.proofs.Records.{size_reported, no_size_reported}
 use Rattle.aveluafi.proofs.reading.size_record.Goals as goal
 
-pub returns : goal.returns
-returns c =
-    size_reported c.args.s c.verdict_report.ensures
+pub returns-in-Ok : goal.returns-in-Ok
+returns-in-Ok c =
+    rw c.in-Ok.is (size_reported c.in-Ok.x c.report_of.ensures)
 
-pub overflow_cast-s : goal.overflow_cast-s
-overflow_cast-s c =
-    omega (arith, c.requires)
+pub returns-in-Err : goal.returns-in-Err
+returns-in-Err c =
+    rw c.in-Err.is (no_size_reported c.in-Err.e c.refusal_report.ensures)

@@ -7,4 +7,4 @@ returns-in_default c =
 
 pub returns : goal.returns
 returns c =
-    rw c.in-Refused.is c.refusal_word.ensures
+    rw c.in-Err.is c.refusal_word.ensures

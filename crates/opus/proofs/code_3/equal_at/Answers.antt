@@ -7,16 +7,16 @@ use lib.ListN.{length, get_or}
 use Rattle.opus.proofs.AtPacket.{body_room}
 use Rattle.opus.proofs.AtEqual.{equal-empty, equal_other, equal-short, equal_flag, equal-none, equal-time, equal_unfit, equal_shared}
 use Rattle.opus.proofs.code_3.equal_at.Goals as goal
-use Rattle.opus.proofs.code_3.equal_at.Goals.{After-fits, In-Whole}
+use Rattle.opus.proofs.code_3.equal_at.Goals.{After-fits, In-Some}
 
 toc-byte : (c : After-fits) → get_or c.args.«data».now 0 0 < 256
 toc-byte c = omega (arith, c.shared_slice_known-4-1.given 0)
 
 -- the padding lengths and the padding lie within the packet
-room : (c : In-Whole)
-    → 2 + c.in-Whole.next + c.in-Whole.pad ≤ length c.args.«data».now
+room : (c : In-Some)
+    → 2 + c.in-Some.next + c.in-Some.pad ≤ length c.args.«data».now
 room c =
-    body_room false c.args.«data».now (get_or c.args.«data».now 1 0) c.if-data-lt2.false _ _ (sym c.read_padding-padding.ensures ∙ c.in-Whole.is)
+    body_room false c.args.«data».now (get_or c.args.«data».now 1 0) c.if-data-lt2.false _ _ (sym c.read_padding-padding.ensures ∙ c.in-Some.is)
 
 pub returns-then-data-eq0 : goal.returns-then-data-eq0
 returns-then-data-eq0 c =
@@ -71,4 +71,4 @@ returns c =
     equal_shared c.args.«data».now c.if-data-lt2.false c.if-data-ne3.false c.if-count_byte-ne0.false c.if-count-eq0.false _
     (toc-byte (goal.at.returns c).After-fits)
     c.samples_48k-each.ensures (sym c.fits.ensures ∙ c.if-not-fits.false) _ _
-    (sym c.read_padding-padding.ensures ∙ c.in-Whole.is) c.shared.ensures
+    (sym c.read_padding-padding.ensures ∙ c.in-Some.is) c.shared.ensures

@@ -3,11 +3,11 @@ use mathlib.Core.Path.{sym, ◌∙◌}
 use Rattle.opus_size.proofs.At.{Found, whole_was, short_was}
 use Rattle.opus.proofs.AtOwn.{own_equal-cut, own_equal-over, own_equal-fits}
 use Rattle.opus.proofs.own.own_equal.Goals as goal
-use Rattle.opus.proofs.own.own_equal.Goals.{In-Whole}
+use Rattle.opus.proofs.own.own_equal.Goals.{In-Some}
 
 -- the length field
-found : (c : In-Whole) → Found c.args.«data».now 1 c.in-Whole.n c.in-Whole.first
-found c = whole_was _ _ _ _ (sym c.size_at-size.ensures ∙ c.in-Whole.is)
+found : (c : In-Some) → Found c.args.«data».now 1 c.in-Some.n c.in-Some.first
+found c = whole_was _ _ _ _ (sym c.size_at-size.ensures ∙ c.in-Some.is)
 
 pub returns-in_default : goal.returns-in_default
 returns-in_default c =
@@ -19,8 +19,8 @@ overflow_sub-data c =
 
 pub returns-then-data-first : goal.returns-then-data-first
 returns-then-data-first c =
-    own_equal-over c.args.«data».now c.requires.0 c.requires.1 _ _ _ (found (goal.at.returns-then-data-first c).In-Whole) c.wide.ensures.0 c.if-data-first.true
+    own_equal-over c.args.«data».now c.requires.0 c.requires.1 _ _ _ (found (goal.at.returns-then-data-first c).In-Some) c.wide.ensures.0 c.if-data-first.true
 
 pub returns : goal.returns
 returns c =
-    own_equal-fits c.args.«data».now c.requires.0 c.requires.1 _ _ _ (found (goal.at.returns c).In-Whole) c.wide.ensures.0 c.if-data-first.false
+    own_equal-fits c.args.«data».now c.requires.0 c.requires.1 _ _ _ (found (goal.at.returns c).In-Some) c.wide.ensures.0 c.if-data-first.false

@@ -16,14 +16,14 @@ overflow_mul-total c =
 
 pub overflow_sub-s : goal.overflow_sub-s
 overflow_sub-s c =
-    (whole_was _ _ _ _ (sym c.size_at-size.ensures ∙ c.in-Whole.is)).within
+    (whole_was _ _ _ _ (sym c.size_at-size.ensures ∙ c.in-Some.is)).within
 
 pub returns-then-s-first : goal.returns-then-s-first
 returns-then-s-first c =
-    λ r. each_over c.args.s.now c.args.count r _ _ _ (whole_was _ _ _ _ (sym c.size_at-size.ensures ∙ c.in-Whole.is))
+    λ r. each_over c.args.s.now c.args.count r _ _ _ (whole_was _ _ _ _ (sym c.size_at-size.ensures ∙ c.in-Some.is))
     c.wide.ensures.0 c.if-s-first.true _
 
 pub returns : goal.returns
 returns c =
-    λ r. each_read c.args.s.now c.args.count r _ _ _ (whole_was _ _ _ _ (sym c.size_at-size.ensures ∙ c.in-Whole.is))
+    λ r. each_read c.args.s.now c.args.count r _ _ _ (whole_was _ _ _ _ (sym c.size_at-size.ensures ∙ c.in-Some.is))
     c.wide.ensures.0 _ c.same_lengths.ensures c.if-s-first.false

@@ -12,7 +12,7 @@ returns-in_default c =
 
 pub overflow_sub-s : goal.overflow_sub-s
 overflow_sub-s c =
-    (whole_was _ _ _ _ (sym c.size_at-size.ensures ∙ c.in-Whole.is)).within
+    (whole_was _ _ _ _ (sym c.size_at-size.ensures ∙ c.in-Some.is)).within
 
 pub overflow_add-total : goal.overflow_add-total
 overflow_add-total c =
@@ -21,9 +21,9 @@ overflow_add-total c =
 pub returns-then-s-first : goal.returns-then-s-first
 returns-then-s-first c =
     λ r. own_over c.args.s.now c.args.k r c.args.next c.args.sum c.args.lengths.now c.requires.read _ _ _
-    (whole_was _ _ _ _ (sym c.size_at-size.ensures ∙ c.in-Whole.is)) c.wide.ensures.0 c.if-s-first.true _
+    (whole_was _ _ _ _ (sym c.size_at-size.ensures ∙ c.in-Some.is)) c.wide.ensures.0 c.if-s-first.true _
 
 pub returns : goal.returns
 returns c =
     λ r. own_read c.args.s.now c.args.k r c.args.next c.args.sum c.args.lengths.now c.requires.read _ _ _
-    (whole_was _ _ _ _ (sym c.size_at-size.ensures ∙ c.in-Whole.is)) c.wide.ensures.0 c.requires.few c.if-s-first.false
+    (whole_was _ _ _ _ (sym c.size_at-size.ensures ∙ c.in-Some.is)) c.wide.ensures.0 c.requires.few c.if-s-first.false

@@ -6,25 +6,25 @@ pub loop-at-init : goal.loop-at-init
 loop-at-init c =
     chain_start _
 
-pub returns-then-s-at : goal.returns-then-s-at
-returns-then-s-at c =
+pub returns-then-s-next : goal.returns-then-s-next
+returns-then-s-next c =
     chain_unfit _ _ _ c.loop-at.invariant _ c.loop-at-test.true c.wide_byte-b.ensures.0 c.if-b-ne255.true
-    c.if-s-at.true
+    c.if-s-next.true
 
 pub returns-then-b-ne255 : goal.returns-then-b-ne255
 returns-then-b-ne255 c =
     chain_whole _ _ _ c.loop-at.invariant _ c.loop-at-test.true c.wide_byte-b.ensures.0 c.if-b-ne255.true
-    c.if-s-at.false
+    c.if-s-next.false
 
-pub returns-then-s-at-2 : goal.returns-then-s-at-2
-returns-then-s-at-2 c =
+pub returns-then-s-next-2 : goal.returns-then-s-next-2
+returns-then-s-next-2 c =
     chain-over _ _ _ c.loop-at.invariant _ c.loop-at-test.true c.wide_byte-b.ensures.0 c.if-b-ne255.false
-    c.if-s-at-2.true
+    c.if-s-next-2.true
 
 pub loop-at-preserved : goal.loop-at-preserved
 loop-at-preserved c =
     chain_more _ _ _ c.loop-at.invariant _ c.loop-at-test.true c.wide_byte-b.ensures.0 c.if-b-ne255.false
-    c.if-s-at-2.false
+    c.if-s-next-2.false
 
 pub returns : goal.returns
 returns c =

@@ -1,6 +1,6 @@
 -- `packet_numbers::words::total_of` meets its contract.
 use Rattle.std.proofs.Common.{ℕ, ◌+◌, ◌-◌, ◌*◌, ◌/◌, ◌≤◌, List, length, get_or, refl, arith, Fits, w16}
-use Rattle.packet_numbers.proofs.Lanes.{Sums, sums_as, sums_fit, pairs_fit, all_fit, eights_left, eights_more}
+use Rattle.packet_numbers.proofs.Lanes.{Sums, sums_as, sums_fit, pairs_fit, all_fit}
 use Rattle.packet_numbers.proofs.Lanes.{Held, sums_four, fours_more, twos_more, ones_more, sums_last}
 use Rattle.packet_numbers.proofs.words.total_of.Goals as goal
 use Rattle.packet_numbers.proofs.words.total_of.Goals.{Else-over-2, Joined-m-eq1, Joined-m-eq1-2, Joined-m-eq1-3}
@@ -12,40 +12,40 @@ held words h = record { words = λ i. (words i).fits; within = omega (arith, h);
 
 -- ---- eight lengths
 module _ (c : Else-over-2) where
-  left : c.loop-i.i + 8 ≤ c.args.n - 1
-  left = eights_left c.loop-i.invariant c.loop-i-test.true
+  left : 8 * c.loop-k.k + 8 ≤ c.args.n - 1
+  left = omega (arith, c.loop-k-test.true)
 
-  four : Sums c.args.ns.now (c.loop-i.sum + c.four_lengths-a.result) (c.loop-i.i + 4)
+  four : Sums c.args.ns.now (c.loop-k.sum + c.four_lengths-a.result) (8 * c.loop-k.k + 4)
   four =
-      sums_four (held c.type_inv.ns c.requires) c.loop-i.invariant.sums (omega (arith, left)) c.four_lengths-a.ensures
+      sums_four (held c.type_inv.ns c.requires) c.loop-k.invariant (omega (arith, left)) c.four_lengths-a.ensures
       (c.over.ensures c.if-over.false)
 
-  eight : Sums c.args.ns.now (c.loop-i.sum + c.four_lengths-a.result + c.four_lengths-b.result) (c.loop-i.i + 4 + 4)
+  eight : Sums c.args.ns.now (c.loop-k.sum + c.four_lengths-a.result + c.four_lengths-b.result) (8 * c.loop-k.k + 4 + 4)
   eight =
       sums_four (held c.type_inv.ns c.requires) four (omega (arith, left)) c.four_lengths-b.ensures
-      (c.over-in-loop-i.ensures c.if-over-2.false)
+      (c.over-in-loop-k.ensures c.if-over-2.false)
 
 pub overflow_add-sum : goal.overflow_add-sum
 overflow_add-sum c = record { fits = sums_fit (four c) (omega (arith, left c)) }
 
-pub overflow_add-sum-in-loop-i : goal.overflow_add-sum-in-loop-i
-overflow_add-sum-in-loop-i c = record { fits = sums_fit (eight c) (omega (arith, left c)) }
+pub overflow_add-sum-in-loop-k : goal.overflow_add-sum-in-loop-k
+overflow_add-sum-in-loop-k c = record { fits = sums_fit (eight c) (omega (arith, left c)) }
 
-pub loop-i-preserved : goal.loop-i-preserved
-loop-i-preserved c = eights_more c.loop-i.invariant c.loop-i-test.true (eight c)
+pub loop-k-preserved : goal.loop-k-preserved
+loop-k-preserved c = sums_as refl (omega arith) (eight c)
 
 -- ---- four more
 pub overflow_add-sum-then-m-eq1 : goal.overflow_add-sum-then-m-eq1
 overflow_add-sum-then-m-eq1 c =
     let k = held c.type_inv.ns c.requires in
-    let s = sums_as refl c.loop-i-test.false c.loop-i.invariant.sums in
+    let s = sums_as refl (omega (arith, c.loop-k-test.false)) c.loop-k.invariant in
     let f = fours_more k s c.if-m-eq1.true c.four_lengths-a-then-m-eq1.ensures (c.over-then-m-eq1.ensures c.if-over-3.false) in
     record { fits = sums_fit f (omega arith) }
 
 fours : (c : Joined-m-eq1) → Sums c.args.ns.now c.if-m-eq1.sum ((c.args.n - 1) / 4 * 4)
 fours c =
     let k = held c.type_inv.ns c.requires in
-    let s = sums_as refl c.loop-i-test.false c.loop-i.invariant.sums in
+    let s = sums_as refl (omega (arith, c.loop-k-test.false)) c.loop-k.invariant in
     elim c.if-m-eq1.branch [
       | then-m-eq1+else-over-3 w ↦
           sums_as w.sum-is refl

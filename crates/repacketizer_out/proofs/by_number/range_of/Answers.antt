@@ -19,11 +19,11 @@ returns-in_default c =
 pub returns-then-k-ge48 : goal.returns-then-k-ge48
 returns-then-k-ge48 c =
     let few : c.args.n ≤ 48 = omega (arith, c.wide-held.ensures.0, c.if-held-gt48.false) in
-    let natural = is_natural c.args.number _ (counted c.args.number c.ranges.number c.count_of.ensures.is c.in-Is.is) in
+    let natural = is_natural c.args.number _ (counted c.args.number c.ranges.number c.count_of.ensures.is c.in-Some.is) in
     c.no_range-then-k-ge48.ensures ∙ range_high c.args.n c.args.packet.now c.args.number few _ natural c.if-k-ge48.true
 
 pub returns : goal.returns
 returns c =
     let few : c.args.n ≤ 48 = omega (arith, c.wide-held.ensures.0, c.if-held-gt48.false) in
-    let natural = is_natural c.args.number _ (counted c.args.number c.ranges.number c.count_of.ensures.is c.in-Is.is) in
+    let natural = is_natural c.args.number _ (counted c.args.number c.ranges.number c.count_of.ensures.is c.in-Some.is) in
     c.range_in.ensures ∙ range_low c.args.n c.args.packet.now c.args.number few _ natural c.if-k-ge48.false c.wide-held.ensures.0
