@@ -8,13 +8,12 @@ use lib.IntN.{pos, negsuc}
 use lib.ListN.{replicate}
 use Rattle.opus_defines.specs.Rules.{rule_refusal}
 use Rattle.opus_defines.specs.declared.Refusal.TheVariants.{OverBudget}
-use Rattle.std.specs.Prelude.{Ok}
+use Rattle.std.specs.Prelude.{Ok, Err}
 use Rattle.opus_toc.specs.Toc.{duration}
 use Rattle.opus_size.specs.Answers.{size_told, parse_size}
 use Rattle.opus_format.specs.Reading.{read}
 use Rattle.opus.specs.Answers.{parsed}
 use Rattle.capture.specs.Finding.{packet_length, before, record_from, next_record}
-use Rattle.compaction.specs.Share.{no_share}
 use Rattle.opus_head.specs.Header.{letters}
 use Rattle.opus_head.specs.Reading.{fields_fit, head_read}
 use Rattle.aveluafi.specs.Records.{size_record, packet_record, capture_record, share_record, head_record}
@@ -61,8 +60,8 @@ unfolding next_record record_from before packet_length
 records_in_c = refl
 
 -- a share that was done, with five numbers that are told apart, and one that is over its budget
-pub shares_in_c : share_record (record { verdict = Ok tt; resume = 26; records = 3; written = 22; reclaimed = 1; passed = 4 })
-    ∷ share_record (no_share OverBudget) ∷ []
+pub shares_in_c : share_record (Ok (record { resume = 26; records = 3; written = 22; reclaimed = 1; passed = 4 }))
+    ∷ share_record (Err OverBudget) ∷ []
     ≡ record { number = pos 0; resume = 26; records = 3; written = 22; reclaimed = 1; passed = 4 }
     ∷ record { number = negsuc 20; resume = 0; records = 0; written = 0; reclaimed = 0; passed = 0 } ∷ []
 shares_in_c = refl

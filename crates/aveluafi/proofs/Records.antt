@@ -8,7 +8,6 @@
 --     same_record                  one of frames that are equally long
 --     long_record, broken_record   a packet that is too long, or breaks a rule
 --     record_found                 a record of a capture
---     share_made                   a share of compaction
 --     head_made                    an identification header
 -- Assumes nothing.
 use Prim.Native.Nat.{ℕ, ◌-◌, ◌≤◌, ◌<◌}
@@ -16,17 +15,16 @@ use native.Mathlib.Omega.{arith}
 use mathlib.Core.Path.{◌≡◌, refl, sym, ap, ◌∙◌}
 use mathlib.Core.List.{List, [], ◌∷◌}
 use mathlib.Core.Bool.{Bool, false}
-use lib.Dec.{ltb, eqb}
+use lib.Dec.{eqb}
 use lib.IntN.{ℤ, pos}
 use lib.ListN.{length, get_or, set, replicate, length-append, length-replicate}
 use mir.Syntax.{w32}
 use mir.Val.{to_z, of_z, SFits}
 use mir.ValLaws.{to_z-of_z}
-use borrow.Author.Tests.{ltb-true, ltb-false}
 use Rattle.laws.specs.Bytes.{Bytes}
-use Rattle.laws.proofs.Never.{never, by_test}
+use Rattle.laws.proofs.Never.{by_test}
 use Rattle.opus_defines.specs.Rules.{rule_refusal}
-use Rattle.opus_defines.specs.Numbers.{plain, refusal_report, verdict_number, verdict_report}
+use Rattle.opus_defines.specs.Numbers.{plain, refusal_report, refusal_number, verdict_number}
 use Rattle.opus_defines.specs.declared.Refusal.{Refusal}
 use Rattle.opus_defines.specs.declared.Refusal.TheVariants.{BadArg}
 use Rattle.opus_defines.specs.declared.Report.{Report}
@@ -40,8 +38,8 @@ use Rattle.opus_size.specs.declared.Size.{Size}
 use Rattle.opus_size.proofs.Fields.{width, field_was}
 use Rattle.opus_toc.specs.Answers.{samples_per_frame}
 use Rattle.opus_format.specs.Frames.{padded48}
-use Rattle.opus_format.specs.Reading.{Reading, refused, accepted, read}
-use Rattle.opus.specs.Answers.{packet_number, packet_report, packet_with, parsed}
+use Rattle.opus_format.specs.Reading.{refused, accepted, read}
+use Rattle.opus.specs.Answers.{packet_number, packet_with, parsed}
 use Rattle.opus.specs.declared.Packet.{Packet}
 use Rattle.opus.specs.declared.PacketHead.{PacketHead}
 use Rattle.opus.proofs.AtPacket.{parse_long, parse_read}
@@ -49,9 +47,9 @@ use Rattle.opus.proofs.AtEqual.{EqualRead}
 use Rattle.opus.proofs.Parsed.{lengths_of, parsed_accepted}
 use Rattle.opus_format.proofs.Facts.{facts}
 use Rattle.capture.specs.declared.NextRecord.{NextRecord}
-use Rattle.compaction.specs.declared.Share.{Share}
-use Rattle.opus_head.specs.declared.HeadRead.{HeadRead}
-use Rattle.aveluafi.specs.Records.{size_record, packet_record, whole_record, capture_record, share_record, head_record}
+use Rattle.opus_head.specs.declared.OpusHead.{OpusHead}
+use Rattle.opus_head.specs.Reading.{zero_head}
+use Rattle.aveluafi.specs.Records.{size_record, packet_record, whole_record, capture_record, head_record}
 
 -- ---- a packet that was read, with its lengths in the array l
 module _ (sd : Bool) (p : List ℕ) (h : PacketHead) (l : List ℕ) (e : Ok (packet_with h l) ≡ parsed sd p) where
@@ -163,20 +161,10 @@ pub record_found : (r : NextRecord) {a : NextRecord} → r ≡ a → {n : ℤ} �
     → record { number = n; line = r.line; place = r.place; length = r.length; passed = r.passed } ≡ capture_record a
 record_found r e m = rw m (ap capture_record e)
 
--- ---- a share of compaction
-pub share_made : (r : Share) {a : Share} → r ≡ a → {n : ℤ} → n ≡ verdict_number (pos 0) r.verdict
-    → record {
-      number = n;
-      resume = r.resume;
-      records = r.records;
-      written = r.written;
-      reclaimed = r.reclaimed;
-      passed = r.passed;
-    }
-    ≡ share_record a
-share_made r e m = rw m (ap share_record e)
-
 -- ---- an identification header
-pub head_made : (r : HeadRead) {a : HeadRead} → r ≡ a → {n : ℤ} → n ≡ verdict_number (pos 0) r.verdict
-    → record { number = n; head = r.head } ≡ head_record a
-head_made r e m = rw m (ap head_record e)
+module _ {a : Result OpusHead Refusal} {n : ℤ} where
+  pub head_made : (h : OpusHead) → Ok h ≡ a → n ≡ pos 0 → record { number = n; head = h } ≡ head_record a
+  head_made h e m = rw m (ap head_record e)
+
+  pub head_refused : (c : Refusal) → Err c ≡ a → n ≡ refusal_number c → {z : OpusHead} → z ≡ zero_head → record { number = n; head = z } ≡ head_record a
+  head_refused c e m q = rw (m, q) (ap head_record e)

@@ -1,6 +1,6 @@
 -- The core's answers as the records that C sees: the verdict becomes its report, that is number, rule and place, and the other fields are the same.
 use Rattle.std.specs.Prelude.{ℕ, List, [], pos, Result, Ok, Err}
-use Rattle.opus_defines.specs.Numbers.{plain, refusal_report, verdict_number}
+use Rattle.opus_defines.specs.Numbers.{plain, refusal_report, refusal_number}
 use Rattle.opus_defines.specs.declared.Refusal.{Refusal}
 use Rattle.opus_format.specs.Frames.{padded48}
 use Rattle.opus.specs.Answers.{packet_with}
@@ -15,7 +15,8 @@ use Rattle.aveluafi.specs.declared.captures.AveluafiRecord.{AveluafiRecord}
 use Rattle.compaction.specs.Share.{share_number}
 use Rattle.compaction.specs.declared.Share.{Share}
 use Rattle.aveluafi.specs.declared.compacting.AveluafiShare.{AveluafiShare}
-use Rattle.opus_head.specs.declared.HeadRead.{HeadRead}
+use Rattle.opus_head.specs.declared.OpusHead.{OpusHead}
+use Rattle.opus_head.specs.Reading.{zero_head}
 use Rattle.aveluafi.specs.declared.identification.AveluafiHead.{AveluafiHead}
 
 -- the number is the bytes of the field, or the refusal's, with zeros beside it
@@ -50,16 +51,27 @@ abbrev pub capture_record : NextRecord → AveluafiRecord
 capture_record r =
     record { number = record_number r; line = r.line; place = r.place; length = r.length; passed = r.passed }
 
-abbrev pub share_record : Share → AveluafiShare
-share_record a =
+-- zeros beside a refusal
+abbrev pub share_record : Result Share Refusal → AveluafiShare
+share_record (Ok a) =
     record {
-      number = share_number a;
+      number = share_number (Ok a);
       resume = a.resume;
       records = a.records;
       written = a.written;
       reclaimed = a.reclaimed;
       passed = a.passed;
     }
+share_record (Err e) =
+    record {
+      number = share_number (Err e);
+      resume = 0;
+      records = 0;
+      written = 0;
+      reclaimed = 0;
+      passed = 0;
+    }
 
-abbrev pub head_record : HeadRead → AveluafiHead
-head_record r = record { number = verdict_number (pos 0) r.verdict; head = r.head }
+abbrev pub head_record : Result OpusHead Refusal → AveluafiHead
+head_record (Ok h) = record { number = pos 0; head = h }
+head_record (Err e) = record { number = refusal_number e; head = zero_head }

@@ -3,6 +3,9 @@ ghost use Rattle.std.specs.Prelude.{◌≡◌, length};
 ghost use Rattle.compaction.specs.Share.{night, share, leaves};
 ghost use Rattle.aveluafi.specs.Records.{share_record};
 
+use compaction::Share;
+use opus_defines::Refusal;
+
 // What a share did; all zeros beside a refusal.
 #[repr(C)]
 #[derive(Clone, Copy)]
@@ -18,6 +21,29 @@ pub struct AveluafiShare {
     pub passed: usize,
 }
 
+fn share_record(a: Result<Share, Refusal>) -> AveluafiShare
+    ensures { result ≡ share_record a }
+{
+    match a {
+        Ok(s) => AveluafiShare {
+            number: 0,
+            resume: s.resume,
+            records: s.records,
+            written: s.written,
+            reclaimed: s.reclaimed,
+            passed: s.passed,
+        },
+        Err(e) => AveluafiShare {
+            number: opus_defines::refusal_number(e),
+            resume: 0,
+            records: 0,
+            written: 0,
+            reclaimed: 0,
+            passed: 0,
+        },
+    }
+}
+
 // The records of a capture from a start place on, each with its packet in the shorter spelling, as many as the budget holds.
 #[unsafe(no_mangle)]
 pub extern "C" fn aveluafi_compact(
@@ -31,14 +57,5 @@ pub extern "C" fn aveluafi_compact(
     ensures bytes { dst.new
         ≡ leaves «data».now dst.old (night «data».now start (length dst.old) budget) }
 {
-    let s = compaction::compact_share(data, start, dst, budget);
-    let v = s.verdict;
-    AveluafiShare {
-        number: opus_defines::verdict_number(opus_defines::OPUS_OK, v),
-        resume: s.resume,
-        records: s.records,
-        written: s.written,
-        reclaimed: s.reclaimed,
-        passed: s.passed,
-    }
+    share_record(compaction::compact_share(data, start, dst, budget))
 }

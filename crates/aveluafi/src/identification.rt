@@ -19,12 +19,12 @@ pub struct AveluafiHead {
 pub extern "C" fn aveluafi_head_read(data: &[u8]) -> AveluafiHead
     ensures { result ≡ head_record (head_read «data».now) }
 {
-    let r = opus_head::head_read(data);
-    let v = r.verdict;
-    let head = r.head;
-    AveluafiHead {
-        number: opus_defines::verdict_number(opus_defines::OPUS_OK, v),
-        head,
+    match opus_head::head_read(data) {
+        Ok(head) => AveluafiHead { number: 0, head },
+        Err(e) => AveluafiHead {
+            number: opus_defines::refusal_number(e),
+            head: opus_head::zero_head(),
+        },
     }
 }
 

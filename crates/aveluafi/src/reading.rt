@@ -153,8 +153,8 @@ pub extern "C" fn aveluafi_packet_parse_impl(data: &[u8], self_delimited: bool) 
     }
     let mut lengths = [0u16; 48];
     match opus::read_into(data, self_delimited, &mut lengths) {
-        Ok(p) => whole_packet(p, lengths),
-        Err(e) => no_packet(e),
+        Ok(p) => return whole_packet(p, lengths),
+        Err(e) => return no_packet(e),
     }
 }
 
@@ -220,7 +220,7 @@ pub extern "C" fn aveluafi_packet_parse(data: &[u8]) -> AveluafiPacket
     }
     let mut lengths = [0u16; 48];
     match opus::read_packet(data, false, &mut lengths) {
-        Ok(p) => whole_packet(p, lengths),
-        Err(e) => no_packet(e),
+        Ok(p) => return whole_packet(p, lengths),
+        Err(e) => return no_packet(e),
     }
 }

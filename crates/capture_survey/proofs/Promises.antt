@@ -8,6 +8,7 @@ use mathlib.Core.List.{List, map}
 use mathlib.Core.Bool.{false}
 use lib.ListN.{length, length-map}
 use Rattle.laws.specs.Bytes.{Bytes}
+use Rattle.std.specs.Prelude.{Ok}
 use Rattle.capture.specs.Records.{Entry}
 use Rattle.capture.specs.Reading.{readings, records_in, records_of, passed_of}
 use Rattle.capture.proofs.Held.{all-counted, records_are}
@@ -16,6 +17,7 @@ use Rattle.capture_window.proofs.Promises.{parts-read_as_the_file}
 use Rattle.packet_judge.specs.Judging.{judged}
 use Rattle.packet_judge.specs.Tallies.{tally_of, sum_of}
 use Rattle.compaction.specs.Share.{night, share}
+use Rattle.compaction.specs.declared.Share.{Share}
 use Rattle.compaction.proofs.Faithful.{records_stand}
 use Rattle.compaction.proofs.Whole.{whole}
 use Rattle.compaction.proofs.Joining.{one_share, all_fit}
@@ -54,11 +56,13 @@ module _ (s : List ℕ) where
 
   -- ---- 4. What it calls reclaimable is what compacting the capture reclaims (document 02, M-103), with any budget that holds it.
   pub reclaimable_is_reclaimed : (room budget : ℕ) → length s ≤ budget → budget ≤ room
-      → (share s (night s 0 room budget)).reclaimed ≡ (survey_of s).reclaimable
+      → (r : Share) × (share s (night s 0 room budget) ≡ Ok r) × (r.reclaimed ≡ (survey_of s).reclaimable)
   unfolding survey_of
-  reclaimable_is_reclaimed room budget h k =
-      rw (one_share s 0 room budget (omega arith) k (omega (arith, all_fit s 0 (omega arith))) (whole s (readings s 0)) refl)
-      (reclaimed_whole s 0 (omega arith))
+  reclaimable_is_reclaimed room budget h k = (
+    _,
+    one_share s 0 room budget (omega arith) k (omega (arith, all_fit s 0 (omega arith))) (whole s (readings s 0)) refl,
+    reclaimed_whole s 0 (omega arith),
+  )
 
 -- ---- 5. No count is larger than three times the bytes.
 pub counts_within : (s : List ℕ) → bytes_in (survey_of s) ≤ 3 * length s

@@ -43,8 +43,11 @@ module _ (s : List ℕ) (at : ℕ) (l : List ℕ) where
     number_is : to_z w32 (of_z w32 x) ≡ refusal_number BadArg
     number_is = rw e (refusal_passed BadArg)
 
+    pub refused_most : length (refusal (to_z w32 (of_z w32 x))) ≤ line_most
+    refused_most = rw number_is (omega (arith, refusal_most BadArg))
+
     pub refused_room : length (refusal (to_z w32 (of_z w32 x))) ≤ length l
-    refused_room = rw number_is (omega (arith, refusal_most BadArg))
+    refused_room = omega (arith, refused_most)
 
     pub ends_refused : most_capture < length s → {d : List ℕ} {n : ℕ} → d ≡ sets l 0 (refusal (to_z w32 (of_z w32 x)))
         → n ≡ length (refusal (to_z w32 (of_z w32 x))) → Said (part_from s at (length l)) d n (length s)
@@ -58,4 +61,4 @@ pub ends_less : (s : List ℕ) (at : ℕ) (l : List ℕ) {next : ℕ} → next �
 ends_less s at l e h i = let w = part_moves s at (length l) h i in omega (arith, w.0, w.1)
 
 -- what the goals of `put_lines` and `print` need
-pub ruleset ending = (ends_read, ends_small, refused_room, ends_refused, ends_less)
+pub ruleset ending = (ends_read, ends_small, refused_most, refused_room, ends_refused, ends_less)

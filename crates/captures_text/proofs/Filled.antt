@@ -47,8 +47,11 @@ module _ {s : List ℕ} {start : ℕ} {l d : List ℕ} {at n : ℕ} (p : Filled 
     turn_less = omega (arith, turn_inside, turn_found.from)
 
     module _ (short : length s ≤ most_capture) (byte : a.line < 256) (h : line_most ≤ length d - n) where
+      pub turn_most : length (record_line a) ≤ line_most
+      turn_most = line_most_lem a byte (omega (arith, turn_inside, turn_found.some)) (omega (arith, turn_inside))
+
       turn_line : length (record_line a) ≤ length l - n
-      turn_line = omega (arith, filled-length, line_most_lem a byte (omega (arith, turn_inside, turn_found.some)) (omega (arith, turn_inside)))
+      turn_line = omega (arith, filled-length, turn_most)
 
       pub turn_room : n + length (record_line a) ≤ length d
       turn_room = omega (arith, turn_line, filled-length, p.within)
@@ -82,4 +85,4 @@ module _ {s : List ℕ} {start : ℕ} {l d : List ℕ} {at n : ℕ} (p : Filled 
   ends_full h = ends at (lines_full (length s) s at (length l - n) (omega (arith, filled-length)))
 
 -- what the goals of `record_lines` need
-pub ruleset filling = (filled_start, filled-length, turn_inside, turn_less, turn_room, filled_more, ends_none, ends_full)
+pub ruleset filling = (filled_start, filled-length, turn_inside, turn_less, turn_most, turn_room, filled_more, ends_none, ends_full)

@@ -4,10 +4,11 @@
 ghost use Rattle.std.specs.Prelude.{◌≡◌, ◌+◌, ◌≤◌, length};
 ghost use Rattle.std.proofs.lemmas.List.Edits.{sets};
 ghost use Rattle.io.specs.Counts.{IsPrefixLen};
-ghost use Rattle.captures_text.specs.Lines.{most_capture, record_line, lines_in, part_from};
+ghost use Rattle.captures_text.specs.Lines.{most_capture, line_most, record_line, lines_in, part_from};
 
 use capture::NextRecord;
 use opus_defines::Refusal;
+use show::TextBuf;
 
 // The longest capture that is read, in bytes.
 pub const MOST_CAPTURE: usize = 65536;
@@ -22,14 +23,18 @@ pub struct Lines {
     pub next: usize,
 }
 
+#[tactic(auto, unfolding(crate::specs::Lines::record_line))]
 fn put_line(out: &mut [u8], at: usize, r: NextRecord) -> usize
-    requires { at + length (record_line r) ≤ length out.old }
+    requires most { length (record_line r) ≤ line_most }
+    requires room { at + length (record_line r) ≤ length out.old }
     ensures bytes { out.new ≡ sets out.old at (record_line r) }
     ensures next { result ≡ at + length (record_line r) }
 {
-    let mut next = show::put_decimal(out, at, r.line as usize);
-    next = show::put_named(out, next, b" ", r.place);
-    show::put_line(out, next, b" ", r.length)
+    let mut line: TextBuf<LINE_MOST> = TextBuf::new();
+    line.put_decimal(r.line as usize);
+    line.put_named(b" ", r.place);
+    line.put_line(b" ", r.length);
+    line.copy_at(out, at)
 }
 
 // The lines of the records from a place on.
@@ -77,7 +82,9 @@ pub fn put_lines(data: &[u8], start: usize, out: &mut [u8]) -> Lines
             next: start,
         };
     }
-    let bytes = show::put_refused(out, opus_defines::refusal_number(Refusal::BadArg));
+    let mut line: TextBuf<LINE_MOST> = TextBuf::new();
+    line.put_refused(opus_defines::refusal_number(Refusal::BadArg));
+    let bytes = line.copy_to(out);
     Lines {
         bytes,
         next: data.len(),

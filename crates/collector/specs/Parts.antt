@@ -1,11 +1,10 @@
 -- What the inner functions answer, where a collector's lengths and numbers are lent beside the rest of it.
-use Rattle.std.specs.Prelude.{ℕ, ◌*◌, Bool, true, false, cond, ◌&&◌, List, [], ◌==◌, nat_le}
+use Rattle.std.specs.Prelude.{ℕ, ◌*◌, Bool, cond, ◌&&◌, List, [], ◌==◌, nat_le, Option, Some, None}
 use Rattle.opus_toc.specs.Toc.{configuration, samples}
 use Rattle.opus_format.specs.Frames.{total}
 use Rattle.packet_numbers.specs.Numbers.{kept_well}
 use Rattle.collector.specs.declared.OpusRepacketizer.{OpusRepacketizer}
 use Rattle.collector.specs.declared.Head.{Head}
-use Rattle.collector.specs.declared.Checked.{Checked}
 use Rattle.collector.specs.declared.Front.{Front}
 use Rattle.collector.specs.declared.Front.TheVariants.{Known, Held}
 use Rattle.collector.specs.Collector.{held_lengths, sound}
@@ -22,9 +21,6 @@ collector_of h len packet = record { toc = h.toc; nb_frames = h.nb_frames; frame
 abbrev pub bare : Head → List ℕ → OpusRepacketizer
 bare h len = collector_of h len []
 
-abbrev pub unsoundly : Checked
-unsoundly = record { sound = false; total = 0 }
-
 -- the frame size is the TOC's at 8 kHz, and the frames last at most 120 ms
 abbrev pub head_fits : Head → Bool
 head_fits h = h.framesize.0 == samples 8000 (configuration h.toc) && nat_le (h.nb_frames * h.framesize.0) 960
@@ -32,11 +28,12 @@ head_fits h = h.framesize.0 == samples 8000 (configuration h.toc) && nat_le (h.n
 -- by its head alone a collector that holds nothing is sound, and one whose head does not fit is not; of any other the frames are to be looked at
 abbrev pub front_of : Head → Front
 front_of h =
-    cond (h.nb_frames == 0) (Known (record { sound = true; total = 0 })) (cond (head_fits h) (Held h.nb_frames) (Known unsoundly))
+    cond (h.nb_frames == 0) (Known (Some 0)) (cond (head_fits h) (Held h.nb_frames) (Known None))
 
--- lengths and numbers of frames: whether a sound collector can have them, and the sum of the lengths
-abbrev pub checked_held : List ℕ → List ℕ → Checked
-checked_held ns ks = record { sound = kept_well ns ks; total = cond (kept_well ns ks) (total ns) 0 }
+-- lengths and numbers of frames: the sum of the lengths, where a sound collector can have them
+abbrev pub checked_held : List ℕ → List ℕ → Option ℕ
+checked_held ns ks = cond (kept_well ns ks) (Some (total ns)) None
 
-unfoldable pub checked : OpusRepacketizer → Checked
-checked rp = record { sound = sound rp; total = cond (sound rp) (total (held_lengths rp)) 0 }
+-- the bytes of the frames held, if the collector is sound
+unfoldable pub checked : OpusRepacketizer → Option ℕ
+checked rp = cond (sound rp) (Some (total (held_lengths rp))) None

@@ -5,7 +5,7 @@ ghost use Rattle.std.specs.Prelude.{◌≡◌, ◌%◌, ◌≤◌, length};
 ghost use Rattle.opus_defines.specs.Numbers.{number_of};
 ghost use Rattle.opus_format.specs.Frames.{total};
 ghost use Rattle.collector.specs.Collector.{empty, sound, nb_frames_held};
-ghost use Rattle.collector.specs.Parts.{head_of, collector_of, unsoundly, head_fits, front_of, checked_held, checked};
+ghost use Rattle.collector.specs.Parts.{head_of, collector_of, head_fits, front_of, checked_held, checked};
 
 use opus_defines::{Refusal, wide};
 use opus_toc::Samples8k;
@@ -69,35 +69,16 @@ pub fn head_of(rp: OpusRepacketizer) -> Head
     }
 }
 
-// Whether a collector is sound, and the bytes of the frames held; 0 of one that is not.
-#[derive(Clone, Copy)]
-pub struct Checked {
-    pub sound: bool,
-    pub total: usize,
-}
-
-fn unsound() -> Checked
-    ensures { result ≡ unsoundly }
-{
-    Checked {
-        sound: false,
-        total: 0,
-    }
-}
-
-// The frames' lengths and numbers.
-fn check_held(ns: &[u16], ks: &[u8]) -> Checked
+// The sum of the lengths of frames, if a sound collector can have these lengths and numbers.
+fn check_held(ns: &[u16], ks: &[u8]) -> Option<usize>
     requires { (1 ≤ length ns.now) × (length ns.now ≤ 48) × (length ks.now ≡ length ns.now) }
     ensures { result ≡ checked_held ns.now ks.now }
 {
     let m = packet_numbers::look(ns, ks);
     if 1 < m.wrong {
-        return unsound();
+        return None;
     }
-    Checked {
-        sound: true,
-        total: wide(m.total),
-    }
+    Some(wide(m.total))
 }
 
 // Whether the frame size of a head is its TOC byte's and its frames last at most 120 ms.
@@ -115,7 +96,7 @@ fn head_fits(h: Head) -> bool
 // What the head alone says: all that there is to say, or how many frames are to be looked at.
 #[derive(Clone, Copy)]
 enum Front {
-    Known(Checked),
+    Known(Option<usize>),
     Held(usize),
 }
 
@@ -124,18 +105,16 @@ fn front_of(h: Head) -> Front
 {
     let n = wide(h.nb_frames);
     if n == 0 {
-        return Front::Known(Checked {
-            sound: true,
-            total: 0,
-        });
+        return Front::Known(Some(0));
     }
     if !head_fits(h) {
-        return Front::Known(unsound());
+        return Front::Known(None);
     }
     Front::Held(n)
 }
 
-pub fn check(h: Head, len: &[u16], packet: &[u8]) -> Checked
+// The bytes of the frames held, if the collector is sound.
+pub fn check(h: Head, len: &[u16], packet: &[u8]) -> Option<usize>
     requires { (length len.now ≡ 48) × (length packet.now ≡ 48) }
     ensures { result ≡ checked (collector_of h len.now packet.now) }
 {
@@ -148,7 +127,7 @@ pub fn check(h: Head, len: &[u16], packet: &[u8]) -> Checked
 
 // The same by words (packet_numbers), for `add` of repacketizer, which has much to look at once many frames are held. It is called from there alone, and so
 // compiled into it.
-pub fn check_words(h: Head, len: &[u16; 48], packet: &[u8; 48]) -> Checked
+pub fn check_words(h: Head, len: &[u16; 48], packet: &[u8; 48]) -> Option<usize>
     ensures { result ≡ checked (collector_of h len.now packet.now) }
 {
     let f = front_of(h);
@@ -157,12 +136,9 @@ pub fn check_words(h: Head, len: &[u16; 48], packet: &[u8; 48]) -> Checked
         Front::Held(n) => {
             let t = packet_numbers::words::tell(len, packet, n);
             if t == packet_numbers::words::NOT_SOUND {
-                return unsound();
+                return None;
             }
-            Checked {
-                sound: true,
-                total: t,
-            }
+            Some(t)
         }
     }
 }
@@ -173,18 +149,16 @@ pub fn is_sound(rp: OpusRepacketizer) -> bool
 {
     let len = rp.len;
     let packet = rp.packet;
-    let c = check(head_of(rp), &len, &packet);
-    c.sound
+    check(head_of(rp), &len, &packet).is_some()
 }
 
 // The frames held.
 fn nb_frames_held(h: Head, len: &[u16; 48], packet: &[u8; 48]) -> Result<u16, Refusal>
     ensures { result ≡ nb_frames_held (collector_of h len.now packet.now) }
 {
-    let c = check(h, len, packet);
-    if !c.sound {
+    let Some(_) = check(h, len, packet) else {
         return Err(Refusal::InvalidState);
-    }
+    };
     Ok(h.nb_frames)
 }
 

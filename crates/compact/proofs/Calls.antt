@@ -9,6 +9,7 @@ use mathlib.Core.List.{List, []}
 use lib.ListN.{length}
 use Rattle.opus_defines.specs.declared.Refusal.{Refusal}
 use Rattle.opus_defines.specs.declared.Refusal.TheVariants.{OverBudget}
+use Rattle.std.specs.Prelude.{Ok}
 use Rattle.capture.specs.Finding.{next_record}
 use Rattle.capture.specs.Reading.{readings}
 use Rattle.capture.specs.declared.NextRecord.{NextRecord}
@@ -24,7 +25,7 @@ use Rattle.compact.specs.Stream.{share_of, written_of}
 
 module _ (s : List ℕ) (b : ℕ) where
   pub call_does : (ds : List NextRecord) (a : NextRecord) → night s 0 b b ≡ does ds a
-      → (share s (night s 0 b b) ≡ share_of s b) × (written_of s b ≡ output s ds)
+      → (share s (night s 0 b b) ≡ Ok (share_of s b)) × (written_of s b ≡ output s ds)
   unfolding share_of written_of
   call_does ds a e =
       let d = does_is s 0 b b ds a e in

@@ -4,7 +4,6 @@
 use Prim.Native.Nat.{ℕ}
 use mathlib.Core.Path.{◌≡◌, refl}
 use mathlib.Core.List.{List, [], ◌∷◌, ◌++◌}
-use Rattle.std.specs.Prelude.{Ok}
 use Rattle.opus_size.specs.Size.{length_field}
 use Rattle.opus_toc.specs.Toc.{duration}
 use Rattle.opus_format.specs.Reading.{read}
@@ -40,7 +39,7 @@ in_parts = refl
 
 -- resume place, records, written, reclaimed, passed over
 abbrev did : ℕ → ℕ → ℕ → ℕ → ℕ → Share
-did r n w c p = record { verdict = Ok tt; resume = r; records = n; written = w; reclaimed = c; passed = p }
+did r n w c p = record { resume = r; records = n; written = w; reclaimed = c; passed = p }
 
 -- the whole of it, with more than it takes and with just enough; a budget that ends at the seam, one that ends within a part, behind a byte that is passed
 -- over, and one that holds no record

@@ -31,14 +31,13 @@ use Rattle.compaction.proofs.Going.{output-none, output_one}
 use Rattle.compact.specs.Stream.{share_of, written_of, none, joined}
 
 pub same-share : {r n w c p r' n' w' c' p' : ℕ} → r ≡ r' → n ≡ n' → w ≡ w' → c ≡ c' → p ≡ p'
-    → ◌≡◌ {A = Share} (record { verdict = Ok tt; resume = r; records = n; written = w; reclaimed = c; passed = p })
-    (record { verdict = Ok tt; resume = r'; records = n'; written = w'; reclaimed = c'; passed = p' })
+    → ◌≡◌ {A = Share} (record { resume = r; records = n; written = w; reclaimed = c; passed = p })
+    (record { resume = r'; records = n'; written = w'; reclaimed = c'; passed = p' })
 same-share a b c d e = rw (a, b, c, d, e)
 
 pub share_eta : (s : List ℕ) (b : ℕ) → let x = share_of s b in
     x
     ≡ record {
-      verdict = Ok tt;
       resume = x.resume;
       records = x.records;
       written = x.written;
@@ -59,7 +58,6 @@ written_in s b r = output s (done s b r)
 abbrev counted : List ℕ → NextRecord → Share → Share
 counted s a x =
     record {
-      verdict = Ok tt;
       resume = x.resume;
       records = suc x.records;
       written = size s a + x.written;
@@ -70,7 +68,6 @@ counted s a x =
 abbrev further : ℕ → ℕ → Share → Share
 further n k x =
     record {
-      verdict = Ok tt;
       resume = n + x.resume;
       records = x.records;
       written = x.written;
@@ -94,7 +91,7 @@ module _ (s : List ℕ) (b : ℕ) (a : NextRecord) (more : List NextRecord) wher
       (same_account s k.1 k.0, rw k.0 (output_one s a (done s (b - size s a) more)))
 
   in_end : fits s b a ≡ false
-      → (share_in s b (a ∷ more) ≡ record { verdict = Ok tt; resume = a.place; records = 0; written = 0; reclaimed = 0; passed = a.passed })
+      → (share_in s b (a ∷ more) ≡ record { resume = a.place; records = 0; written = 0; reclaimed = 0; passed = a.passed })
       × (written_in s b (a ∷ more) ≡ [])
   unfolding account
   in_end t =
@@ -195,7 +192,6 @@ size_in l = 5 + length (rewritten (entry_in l)).packet
 abbrev pub of_record : List ℕ → Share
 of_record l =
     record {
-      verdict = Ok tt;
       resume = 5 + packet_length l;
       records = 1;
       written = size_in l;
@@ -237,7 +233,7 @@ module _ (l : List ℕ) (f : packet_length l ≡ 0 → ⊥) (b : ℕ) where
 
 -- ---- a byte that is passed over
 abbrev pub of_byte : Share
-of_byte = record { verdict = Ok tt; resume = 1; records = 0; written = 0; reclaimed = 0; passed = 1 }
+of_byte = record { resume = 1; records = 0; written = 0; reclaimed = 0; passed = 1 }
 
 module _ (x : ℕ) (l : List ℕ) (z : packet_length (x ∷ l) ≡ 0) (b : ℕ) where
   over : (share_in (x ∷ l) b (readings (x ∷ l) 0) ≡ further 1 1 (share_in l b (readings l 0)))

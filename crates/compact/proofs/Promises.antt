@@ -9,6 +9,7 @@ use Rattle.laws.specs.Bytes.{Bytes}
 use Rattle.laws.proofs.Bytes.{bytes_take}
 use Rattle.opus_defines.specs.declared.Refusal.{Refusal}
 use Rattle.opus_defines.specs.declared.Refusal.TheVariants.{OverBudget}
+use Rattle.std.specs.Prelude.{Ok}
 use Rattle.capture.specs.Records.{Entry, written}
 use Rattle.capture.specs.Finding.{packet_length}
 use Rattle.capture.specs.Reading.{readings, answers_for, records_in, records_of, passed_of}
@@ -41,7 +42,7 @@ share_of_the_file chunks budget h = cuts_share (parts_cut [] chunks h) budget
 pub as_the_call_does : (file : List ℕ) (budget : ℕ)
     → let n = night file 0 budget budget in
     let s = share_of file budget in
-    ((ds : List NextRecord) (a : NextRecord) → n ≡ does ds a → (share file n ≡ s) × (written_of file budget ≡ output file ds))
+    ((ds : List NextRecord) (a : NextRecord) → n ≡ does ds a → (share file n ≡ Ok s) × (written_of file budget ≡ output file ds))
     × ((e : Refusal) → n ≡ refuses e → (e ≡ OverBudget) × (s.records ≡ 0) × (s.resume < length file) × (written_of file budget ≡ []))
     × (s.records ≡ 0 → s.resume < length file → n ≡ refuses OverBudget)
 as_the_call_does file budget = (call_does file budget, over_none file budget, none_over file budget)

@@ -1,6 +1,5 @@
 -- A file compacted part by part (beyond document 02, M-103): what is written for it with a budget, and what is said of it.
 use Rattle.std.specs.Prelude.{ℕ, ◌+◌, ◌-◌, List, [], ◌∷◌, ◌++◌, cond, ltb, length}
-use Rattle.std.specs.Prelude.{Ok}
 use Rattle.capture.specs.Reading.{readings}
 use Rattle.compaction.specs.Account.{output, account}
 use Rattle.compaction.specs.Share.{done, stop, accounted}
@@ -16,12 +15,11 @@ written_of s budget = output s (done s budget (readings s 0))
 
 -- no share yet, and a share resumed where another stopped
 abbrev pub none : Share
-none = record { verdict = Ok tt; resume = 0; records = 0; written = 0; reclaimed = 0; passed = 0 }
+none = record { resume = 0; records = 0; written = 0; reclaimed = 0; passed = 0 }
 
 abbrev pub joined : Share → Share → Share
 joined a b =
     record {
-      verdict = Ok tt;
       resume = a.resume + b.resume;
       records = a.records + b.records;
       written = a.written + b.written;

@@ -60,7 +60,6 @@ fn no_share() -> Share
     ensures { result ≡ Stream·none }
 {
     Share {
-        verdict: Ok(()),
         resume: 0,
         records: 0,
         written: 0,
@@ -76,7 +75,6 @@ fn joined(a: Share, b: Share) -> Share
     ensures { result ≡ Stream·joined a b }
 {
     Share {
-        verdict: Ok(()),
         resume: a.resume + b.resume,
         records: a.records + b.records,
         written: a.written + b.written,

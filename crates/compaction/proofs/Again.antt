@@ -73,7 +73,7 @@ module _ (es : List Entry) (h : HoldAll es) (k : Settled es) where
   pub file_again : (room budget : ℕ) → length (file_of es) ≤ budget → budget ≤ room
       → let n = night (file_of es) 0 room budget in
       (share (file_of es) n
-      ≡ record { verdict = Ok tt; resume = length (file_of es); records = length es; written = length (file_of es); reclaimed = 0; passed = 0 })
+      ≡ Ok (record { resume = length (file_of es); records = length es; written = length (file_of es); reclaimed = 0; passed = 0 }))
       × ((dst : List ℕ) → leaves (file_of es) dst n ≡ sets dst 0 (file_of es))
   file_again room budget fits roomy =
       let s = file_of es in

@@ -5,8 +5,9 @@ use Prim.Native.Nat.{ℕ}
 use mathlib.Core.Path.{◌≡◌, refl}
 use mathlib.Core.List.{List, [], ◌∷◌}
 use lib.ListN.{replicate}
+use Rattle.opus_defines.specs.declared.Refusal.{Refusal}
 use Rattle.opus_defines.specs.declared.Refusal.TheVariants.{BadArg, BufferTooSmall, OverBudget}
-use Rattle.std.specs.Prelude.{Ok}
+use Rattle.std.specs.Prelude.{Result, Ok, Err}
 use Rattle.opus_size.specs.Size.{length_field}
 use Rattle.opus_toc.specs.Toc.{duration}
 use Rattle.opus_format.specs.Reading.{read}
@@ -18,7 +19,7 @@ use Rattle.capture.specs.Finding.{packet_length, packet_at, before, record_from,
 use Rattle.capture.specs.Reading.{record_bytes, readings_in}
 use Rattle.spelling.specs.Spelling.{spelling, compact_of, shorter}
 use Rattle.compaction.specs.Account.{account}
-use Rattle.compaction.specs.Share.{done, stop, night, no_share, share, leaves}
+use Rattle.compaction.specs.Share.{done, stop, night, share, leaves}
 use Rattle.compaction.specs.declared.Share.{Share}
 
 abbrev capture : List ℕ
@@ -28,11 +29,11 @@ capture =
     ∷ 0x4b ∷ 0x9d ∷ 0x03 ∷ 0x00 ∷ 0x02 ∷ 0x00 ∷ 0xaa ∷ 0x00 ∷ []
 
 -- resume place, records, written, reclaimed, passed over
-abbrev did : ℕ → ℕ → ℕ → ℕ → ℕ → Share
-did r n w c p = record { verdict = Ok tt; resume = r; records = n; written = w; reclaimed = c; passed = p }
+abbrev did : ℕ → ℕ → ℕ → ℕ → ℕ → Result Share Refusal
+did r n w c p = Ok (record { resume = r; records = n; written = w; reclaimed = c; passed = p })
 
 -- a call into so many bytes of 238
-abbrev answer : ℕ → ℕ → ℕ → Share
+abbrev answer : ℕ → ℕ → ℕ → Result Share Refusal
 answer start room budget = share capture (night capture start room budget)
 
 abbrev bytes : ℕ → ℕ → ℕ → List ℕ
@@ -47,7 +48,7 @@ accepted = refl
 
 -- the next record alone exceeds the budget, at the front and later; a start past the end, whatever else is wrong; a destination shorter than the budget
 pub refused : answer 0 99 7 ∷ answer 11 99 6 ∷ answer 27 0 5 ∷ answer 0 5 6 ∷ []
-    ≡ no_share OverBudget ∷ no_share OverBudget ∷ no_share BadArg ∷ no_share BufferTooSmall ∷ []
+    ≡ Err OverBudget ∷ Err OverBudget ∷ Err BadArg ∷ Err BufferTooSmall ∷ []
 unfolding night done stop packet_length packet_at before record_from next_record record_bytes readings_in spelling compact_of shorter unpad_packet read duration
     header compact length_field
 refused = refl

@@ -167,14 +167,13 @@ module _ (s : List ℕ) (start room budget : ℕ) (h : start ≤ length s) (k : 
   -- what it answers and leaves
   pub one_share : (j : Account) → whole s (readings s start) ≡ j
       → share s (night s start room budget)
-      ≡ record {
-        verdict = Ok tt;
+      ≡ Ok (record {
         resume = length s;
         records = j.records;
         written = j.written;
         reclaimed = j.reclaimed;
         passed = j.passed;
-      }
+      })
   one_share j e = rw (one_night, one_account, e, to_the_end)
 
   pub one_left : (dst : List ℕ) → leaves s dst (night s start room budget) ≡ sets dst 0 (output s (records_in (readings s start)))

@@ -15,6 +15,7 @@ use lib.Dec.{eqb}
 use borrow.Author.Tests.{lt-ltb, le-ltb, eq-eqb, ne_eqb, eqb-true, eqb-false}
 use Rattle.laws.proofs.Never.{by_test, never}
 use Rattle.opus_defines.specs.declared.Refusal.TheVariants.{BadArg, BufferTooSmall, OverBudget}
+use Rattle.std.specs.Prelude.{Ok, Err}
 use Rattle.compaction.specs.declared.Share.{Share}
 use Rattle.capture.specs.Finding.{next_record}
 use Rattle.capture.specs.Reading.{behind, begins, readings}
@@ -23,7 +24,7 @@ use Rattle.capture.proofs.Answers.{found, next_end}
 use Rattle.capture.proofs.Steps.{reading_induction}
 use Rattle.capture.proofs.Resuming.{Splits, splits}
 use Rattle.compaction.specs.Account.{size, output, account}
-use Rattle.compaction.specs.Share.{fits, done, stop, Night, refuses, does, stopping, night, accounted, no_share, share, leaves}
+use Rattle.compaction.specs.Share.{fits, done, stop, Night, refuses, does, stopping, night, accounted, share, leaves}
 use Rattle.compaction.proofs.Steps.{none-fits, stops_here, goes_on}
 use Rattle.compaction.proofs.Going.{output-none}
 
@@ -107,14 +108,13 @@ none-output s [] e = output-none s
 none-output s (d ∷ ds) e = never (cc)
 
 -- a refusal that comes before the share
-pub past_told : (s : List ℕ) (start budget : ℕ) (d : List ℕ) → length s < start → {r : Share} → r ≡ no_share BadArg
-    → (r ≡ share s (night s start (length d) budget)) × (d ≡ leaves s d (night s start (length d) budget))
-past_told s start budget d h e = rw (night_past s start (length d) budget h) (e, refl)
+pub past_told : (s : List ℕ) (start budget : ℕ) (d : List ℕ) → length s < start
+    → (Err BadArg ≡ share s (night s start (length d) budget)) × (d ≡ leaves s d (night s start (length d) budget))
+past_told s start budget d h = rw (night_past s start (length d) budget h) (refl, refl)
 
 pub short-told : (s : List ℕ) (start budget : ℕ) (d : List ℕ) → start ≤ length s → length d < budget
-    → {r : Share} → r ≡ no_share BufferTooSmall
-    → (r ≡ share s (night s start (length d) budget)) × (d ≡ leaves s d (night s start (length d) budget))
-short-told s start budget d h k e = rw (night-short s start (length d) budget h k) (e, refl)
+    → (Err BufferTooSmall ≡ share s (night s start (length d) budget)) × (d ≡ leaves s d (night s start (length d) budget))
+short-told s start budget d h k = rw (night-short s start (length d) budget h k) (refl, refl)
 
 -- a share that was made, with no record done no refusal yet
 module _ (s : List ℕ) (start budget : ℕ) (d x : List ℕ) (h : start ≤ length s) (k : budget ≤ length d) (r : Share) where
@@ -134,17 +134,17 @@ module _ (s : List ℕ) (start budget : ℕ) (d x : List ℕ) (h : start ≤ len
     place : r.resume ≡ a.place
     place = ap (λ (q : Share). q.resume) is
 
-    by_does : did ≡ does ds a → (r ≡ share s did) × (x ≡ leaves s d did)
-    by_does e = rw e (is, lies)
+    by_does : did ≡ does ds a → (Ok r ≡ share s did) × (x ≡ leaves s d did)
+    by_does e = rw (e, is) (refl, lies)
 
-    pub some_done : (r.records ≡ 0 → ⊥) → (r ≡ share s did) × (x ≡ leaves s d did)
+    pub some_done : (r.records ≡ 0 → ⊥) → (Ok r ≡ share s did) × (x ≡ leaves s d did)
     some_done f = by_does (night-within s start (length d) budget h k ∙ stopping_some ds a (λ z. f (count ∙ z)))
 
-    pub none_left : r.records ≡ 0 → length s ≤ r.resume → (r ≡ share s did) × (x ≡ leaves s d did)
+    pub none_left : r.records ≡ 0 → length s ≤ r.resume → (Ok r ≡ share s did) × (x ≡ leaves s d did)
     none_left z e =
         by_does (night-within s start (length d) budget h k ∙ stopping_end ds a (sym count ∙ z) (end_is_stop s start budget h (omega (arith, place))))
 
-    pub over_budget : r.records ≡ 0 → r.resume < length s → (no_share OverBudget ≡ share s did) × (x ≡ leaves s d did)
+    pub over_budget : r.records ≡ 0 → r.resume < length s → (Err OverBudget ≡ share s did) × (x ≡ leaves s d did)
     over_budget z e =
         let none : length ds ≡ 0 = sym count ∙ z in
         let no : a.length ≡ 0 → ⊥ = λ z. omega (arith, place, stop_is_end s start budget h z) in

@@ -17,7 +17,8 @@ use Rattle.capture.specs.Reading.{readings, answers_for, entry_of, entries, reco
 use Rattle.capture.specs.declared.NextRecord.{NextRecord}
 use Rattle.capture.proofs.Promises.{records_read_back}
 use Rattle.compaction.specs.Account.{rewritten, size, output, Account, account}
-use Rattle.compaction.specs.Share.{refuses, does, night, share, leaves}
+use Rattle.compaction.specs.Share.{refuses, does, night, accounted, share, leaves}
+use Rattle.compaction.specs.declared.Share.{Share}
 use Rattle.compaction.specs.Nights.{Nights}
 use Rattle.compaction.specs.Lossless.{StandAll, Faithful}
 use Rattle.compaction.specs.Shortest.{Shortest}
@@ -61,27 +62,32 @@ module _ (s : List ℕ) (start room budget : ℕ) where
 
     -- 3. It resumes at that answer's place. Records, and bytes written, are those of the account, and from the start to the resume place every byte was
     -- written, reclaimed or passed over.
-    pub account-adds_up : let r = share s (night s start room budget) in
-        (r.resume ≡ a.place) × (r.records ≡ length ds) × (r.written ≡ length (output s ds))
-        × (r.resume ≡ start + (r.written + r.reclaimed + r.passed))
+    pub account-adds_up : (r : Share) × (share s (night s start room budget) ≡ Ok r) × (r.resume ≡ a.place) × (r.records ≡ length ds)
+        × (r.written ≡ length (output s ds)) × (r.resume ≡ start + (r.written + r.reclaimed + r.passed))
     account-adds_up =
         let d = does_is s start room budget ds a e in
         let k = spans s start d.inside budget in
         let sum : a.place ≡ start + ((account s a ds).written + (account s a ds).reclaimed + (account s a ds).passed) =
         rw (d.dones, d.stops) k.reached in
-        rw e (refl, account_records s a ds, account-written s a ds, sum)
+        rw e (accounted a (account s a ds), refl, refl, account_records s a ds, account-written s a ds, sum)
 
     -- So what is written is never longer than what was read.
     pub never_longer : start + length (output s ds) ≤ a.place
-    never_longer = let k = account-adds_up in omega (arith, rw e at k.2, rw e at k.3)
+    never_longer = let k = account-adds_up in omega (arith, k.2, k.4, k.5)
 
     -- 4. What is written stands at the front of the destination, and no byte behind it changes.
-    pub written_in_front : (dst : List ℕ) → length dst ≡ room → let n = night s start room budget in
-        (take (share s n).written (leaves s dst n) ≡ output s ds) × (drop (share s n).written (leaves s dst n) ≡ drop (share s n).written dst)
+    pub written_in_front : (dst : List ℕ) → length dst ≡ room → let n = night s start room budget in (r : Share)
+        × (share s n ≡ Ok r) × (take r.written (leaves s dst n) ≡ output s ds) × (drop r.written (leaves s dst n) ≡ drop r.written dst)
     written_in_front dst l =
         let d = does_is s start room budget ds a e in
         let fit : length (output s ds) ≤ length dst = omega (arith, stops_exactly.1, d.roomy) in
-        rw (e, account-written s a ds) (take-sets dst (output s ds) fit, drop-sets_past dst 0 (output s ds) (length (output s ds)) (omega arith))
+        let w = account-written s a ds in
+        rw e (
+          accounted a (account s a ds),
+          refl,
+          rw w (take-sets dst (output s ds) fit),
+          rw w (drop-sets_past dst 0 (output s ds) (length (output s ds)) (omega arith)),
+        )
 
     -- 5. Nothing is lost. The records done are those that stand in the capture, byte for byte. What is written, read from its front, passes nothing over
     -- and gives as many records, in the same order and with the same lines; the packet of each has the frames and the upper six TOC bits of the one it was
@@ -109,16 +115,16 @@ module _ (s : List ℕ) (start room budget : ℕ) where
       pub again_changes_nothing : let out = output s ds in
           (room' budget' : ℕ) → length out ≤ budget' → budget' ≤ room' → let n = night out 0 room' budget' in
           (share out n
-          ≡ record { verdict = Ok tt; resume = length out; records = length ds; written = length out; reclaimed = 0; passed = 0 })
+          ≡ Ok (record { resume = length out; records = length ds; written = length out; reclaimed = 0; passed = 0 }))
           × ((dst : List ℕ) → leaves out dst n ≡ sets dst 0 out)
       again_changes_nothing room' budget' fits roomy =
           let k = file_again (map rewritten (entries s ds)) holds (settled s bytes ds) room' budget' fits roomy in
           let count : length (map rewritten (entries s ds)) ≡ length ds = length-map (entries s ds) rewritten ∙ length-map ds (entry_of s) in
           (k.0 ∙ rw count, k.1)
 
-  -- 8. A refusal changes nothing, and beside it stand zeros.
+  -- 8. A refusal is answered, and changes nothing.
   pub refused_changes_nothing : (e : Refusal) → night s start room budget ≡ refuses e
-      → (share s (night s start room budget) ≡ record { verdict = Err e; resume = 0; records = 0; written = 0; reclaimed = 0; passed = 0 })
+      → (share s (night s start room budget) ≡ Err e)
       × ((dst : List ℕ) → leaves s dst (night s start room budget) ≡ dst)
   refused_changes_nothing e q = rw q (refl, λ dst. refl)
 
@@ -127,14 +133,13 @@ module _ (s : List ℕ) (start room budget : ℕ) where
 module _ (s : List ℕ) (start : ℕ) (out : List ℕ) (k : Account) (nights : Nights s start out k) where
   pub nights_are_one : (room budget : ℕ) → length out ≤ budget → budget ≤ room → let n = night s start room budget in
       (share s n
-      ≡ record {
-        verdict = Ok tt;
+      ≡ Ok (record {
         resume = length s;
         records = k.records;
         written = k.written;
         reclaimed = k.reclaimed;
         passed = k.passed;
-      })
+      }))
       × ((dst : List ℕ) → leaves s dst n ≡ sets dst 0 out)
   nights_are_one room budget fits roomy =
       let h = nights_start nights in

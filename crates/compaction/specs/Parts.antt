@@ -4,7 +4,6 @@ use Rattle.opus_defines.specs.Bounds.{most_packet}
 use Rattle.capture.specs.Records.{Entry, head_bytes, written}
 use Rattle.capture.specs.Finding.{packet_length, packet_at}
 use Rattle.spelling.specs.Spelling.{shorter}
-use Rattle.std.specs.Prelude.{Ok}
 use Rattle.compaction.specs.declared.Share.{Share}
 use Rattle.compaction.specs.Account.{rewritten}
 
@@ -30,7 +29,6 @@ pub data Runs (s : List ℕ) (at : ℕ) : ℕ → ℕ → Type 0 where
 abbrev pub stops_at : ℕ → ℕ → ℕ → ℕ → ℕ → Share
 stops_at start place records written passed =
     record {
-      verdict = Ok tt;
       resume = place;
       records = records;
       written = written;

@@ -1,10 +1,9 @@
 -- A share of compaction (document 02, M-103): which records a call does with its budget, where it stops, what it answers and what it leaves.
-use Rattle.std.specs.Prelude.{ℕ, ◌-◌, List, [], ◌∷◌, Bool, cond, ◌&&◌, ltb, leb, eqb, length, ℤ, pos}
+use Rattle.std.specs.Prelude.{ℕ, ◌-◌, List, [], ◌∷◌, Bool, cond, ◌&&◌, ltb, leb, eqb, length, ℤ, pos, Result, Ok, Err}
 use Rattle.std.proofs.lemmas.List.Edits.{sets}
-use Rattle.opus_defines.specs.Numbers.{verdict_number}
+use Rattle.opus_defines.specs.Numbers.{refusal_number}
 use Rattle.opus_defines.specs.declared.Refusal.{Refusal}
 use Rattle.opus_defines.specs.declared.Refusal.TheVariants.{BadArg, BufferTooSmall, OverBudget}
-use Rattle.std.specs.Prelude.{Err, Ok}
 use Rattle.capture.specs.Reading.{readings}
 use Rattle.capture.specs.declared.NextRecord.{NextRecord}
 use Rattle.compaction.specs.Account.{size, output, Account, account}
@@ -40,11 +39,10 @@ night s start room budget =
     cond (ltb (length s) start) (refuses BadArg)
     (cond (ltb room budget) (refuses BufferTooSmall) (stopping (done s budget (readings s start)) (stop s budget (readings s start))))
 
--- what it answers: the place at which it stops and the account, or zeros beside a refusal
+-- what it answers: the place at which it stops and the account, or the refusal
 abbrev pub accounted : NextRecord → Account → Share
 accounted a k =
     record {
-      verdict = Ok tt;
       resume = a.place;
       records = k.records;
       written = k.written;
@@ -52,12 +50,9 @@ accounted a k =
       passed = k.passed;
     }
 
-abbrev pub no_share : Refusal → Share
-no_share e = record { verdict = Err e; resume = 0; records = 0; written = 0; reclaimed = 0; passed = 0 }
-
-abbrev pub share : List ℕ → Night → Share
-share s (refuses e) = no_share e
-share s (does ds a) = accounted a (account s a ds)
+abbrev pub share : List ℕ → Night → Result Share Refusal
+share s (refuses e) = Err e
+share s (does ds a) = Ok (accounted a (account s a ds))
 
 -- what it leaves in the destination
 abbrev pub leaves : List ℕ → List ℕ → Night → List ℕ
@@ -65,5 +60,6 @@ leaves s dst (refuses e) = dst
 leaves s dst (does ds a) = sets dst 0 (output s ds)
 
 -- the number of an answer: 0, or the refusal's
-abbrev pub share_number : Share → ℤ
-share_number a = verdict_number (pos 0) a.verdict
+abbrev pub share_number : Result Share Refusal → ℤ
+share_number (Ok a) = pos 0
+share_number (Err e) = refusal_number e

@@ -7,7 +7,7 @@ ghost use Rattle.std.proofs.lemmas.List.Edits.{sets};
 ghost use Rattle.capture.specs.Finding.{packet_length};
 ghost use Rattle.capture.specs.Reading.{readings};
 ghost use Rattle.compaction.specs.Account.{output, account};
-ghost use Rattle.compaction.specs.Share.{done, stop, night, accounted, no_share, share as Share·share, leaves};
+ghost use Rattle.compaction.specs.Share.{done, stop, night, accounted, share as Share·share, leaves};
 ghost use Rattle.compaction.specs.Parts.{head_of, entry_at, put_of, Runs, stops_at};
 
 use capture::HEAD_BYTES;
@@ -18,11 +18,9 @@ use spelling::Spelling;
 // copied, and enough that a copy's start and end cost little.
 const RUN_BYTES: usize = 1024;
 
-// What a call answers: the place to resume at, the records done, their bytes as written and by how many they were longer, and the bytes passed over. All
-// zeros beside a refusal.
-#[derive(Clone, Copy)]
+// What a call did: the place to resume at, the records done, their bytes as written and by how many they were longer, and the bytes passed over.
+#[derive(Clone, Copy, Debug, PartialEq, Eq)]
 pub struct Share {
-    pub verdict: Result<(), Refusal>,
     pub resume: usize,
     pub records: usize,
     pub written: usize,
@@ -156,7 +154,6 @@ fn stopped(start: usize, place: usize, records: usize, written: usize, passed: u
     ensures { result ≡ stops_at start place records written passed }
 {
     Share {
-        verdict: Ok(()),
         resume: place,
         records,
         written,
@@ -165,39 +162,30 @@ fn stopped(start: usize, place: usize, records: usize, written: usize, passed: u
     }
 }
 
-// A refusal, and zeros.
-fn no_share(e: Refusal) -> Share
-    ensures { result ≡ no_share e }
-{
-    Share {
-        verdict: Err(e),
-        resume: 0,
-        records: 0,
-        written: 0,
-        reclaimed: 0,
-        passed: 0,
-    }
-}
-
 // Rewrites the records of a capture from `start` on into `dst`, as many as `budget` bytes hold: -1 for a start past the end, -2 for a destination that is
 // shorter than the budget, -21 if the next record alone exceeds the budget.
-pub fn compact_share(data: &[u8], start: usize, dst: &mut [u8], budget: usize) -> Share
+pub fn compact_share(
+    data: &[u8],
+    start: usize,
+    dst: &mut [u8],
+    budget: usize,
+) -> Result<Share, Refusal>
     ensures answer { result
         ≡ Share·share «data».now (night «data».now start (length dst.old) budget) }
     ensures bytes { dst.new
         ≡ leaves «data».now dst.old (night «data».now start (length dst.old) budget) }
 {
     if data.len() < start {
-        return no_share(Refusal::BadArg);
+        return Err(Refusal::BadArg);
     }
     if dst.len() < budget {
-        return no_share(Refusal::BufferTooSmall);
+        return Err(Refusal::BufferTooSmall);
     }
     let s = share_from(data, start, dst, budget);
     if s.records == 0 {
         if s.resume < data.len() {
-            return no_share(Refusal::OverBudget);
+            return Err(Refusal::OverBudget);
         }
     }
-    s
+    Ok(s)
 }

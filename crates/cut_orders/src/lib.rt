@@ -59,10 +59,10 @@ fn guard(
     ensures { order_report (begun (collector_of h len.now packet.now) store room orders)
         ≡ record { number = number_of result; position = 0 } }
 {
-    let c = collector::check(h, len, packet);
-    if !c.sound {
+    let sound = collector::check(h, len, packet);
+    let Some(_) = sound else {
         return Err(Refusal::InvalidState);
-    }
+    };
     if store < collector::LEAST_STORE {
         return Err(Refusal::BadArg);
     }

@@ -7,8 +7,6 @@ use lib.ListN.{replicate}
 use Rattle.opus_head.specs.Header.{letters}
 use Rattle.opus_head.specs.Reading.{fields_fit, head_read}
 use Rattle.show.specs.Text.{places, decimal, integer, refused_label, refusal}
-use Rattle.head_text.specs.Labels.{version_label, channels_label, skip_label, samples_end, rate_label, hertz_end, gain_label, gain_end}
-use Rattle.head_text.specs.Labels.{family_label, streams_label, coupled_label, mapping_label}
 use Rattle.head_text.specs.Text.{entry_texts, opening_lines, sound_lines, stream_lines, head_lines, head_text}
 
 -- two channels, 312 samples, 48,000 Hz, -256 of 1/256 dB, family 0
@@ -30,7 +28,6 @@ pub stereo_text : head_text stereo
     ∷ 99 ∷ 111 ∷ 117 ∷ 112 ∷ 108 ∷ 101 ∷ 100 ∷ 32 ∷ 49 ∷ 10
     ∷ 109 ∷ 97 ∷ 112 ∷ 112 ∷ 105 ∷ 110 ∷ 103 ∷ 32 ∷ 48 ∷ 32 ∷ 49 ∷ 10 ∷ []
 unfolding head_text head_lines opening_lines sound_lines stream_lines entry_texts head_read fields_fit decimal integer places
-    version_label channels_label skip_label samples_end rate_label hertz_end gain_label gain_end family_label streams_label coupled_label mapping_label
 stereo_text = refl
 
 -- six channels of family 1 in four streams, two of them coupled, 44,100 Hz
@@ -53,7 +50,6 @@ pub surround_text : head_text surround
     ∷ 99 ∷ 111 ∷ 117 ∷ 112 ∷ 108 ∷ 101 ∷ 100 ∷ 32 ∷ 50 ∷ 10
     ∷ 109 ∷ 97 ∷ 112 ∷ 112 ∷ 105 ∷ 110 ∷ 103 ∷ 32 ∷ 48 ∷ 32 ∷ 52 ∷ 32 ∷ 49 ∷ 32 ∷ 50 ∷ 32 ∷ 51 ∷ 32 ∷ 53 ∷ 10 ∷ []
 unfolding head_text head_lines opening_lines sound_lines stream_lines entry_texts head_read fields_fit decimal integer places
-    version_label channels_label skip_label samples_end rate_label hertz_end gain_label gain_end family_label streams_label coupled_label mapping_label
 surround_text = refl
 
 -- "refused -22" for no byte at all, and for the stereo header with a byte more

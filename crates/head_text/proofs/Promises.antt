@@ -13,9 +13,10 @@ use lib.ListN.{length, take}
 use Rattle.laws.specs.Bytes.{Bytes}
 use Rattle.opus_defines.specs.Numbers.{refusal_number}
 use Rattle.opus_defines.specs.declared.Refusal.{Refusal}
+use Rattle.std.specs.Prelude.{Ok, Err}
 use Rattle.opus_head.specs.Header.{head_bytes, Lawful}
 use Rattle.opus_head.specs.Heads.{InRange}
-use Rattle.opus_head.specs.Reading.{no_head, a_head, head_read}
+use Rattle.opus_head.specs.Reading.{head_read}
 use Rattle.opus_head.specs.declared.OpusHead.{OpusHead}
 use Rattle.opus_head.proofs.Promises.{lawful_is_accepted, read_is_in_range, reading_answers}
 use Rattle.show.specs.Text.{refusal}
@@ -26,17 +27,17 @@ use Rattle.head_text.proofs.Front.{front_read}
 -- ---- 1. A header that obeys the rules has its nine lines for a text; behind one of another version than 1 anything may stand.
 pub text_of_a_header : (h : OpusHead) → InRange h → Lawful h → (rest : List ℕ) → (h.version ≡ 1 → rest ≡ [])
     → head_text (head_bytes h ++ rest) ≡ head_lines h
-text_of_a_header h range l rest end = text_read (head_bytes h ++ rest) (a_head h) (sym (lawful_is_accepted h range l rest end)) refl
+text_of_a_header h range l rest end = text_read (head_bytes h ++ rest) (Ok h) (sym (lawful_is_accepted h range l rest end)) h refl
 
-pub text_of_what_is_read : (s : List ℕ) (h : OpusHead) → head_read s ≡ a_head h → head_text s ≡ head_lines h
-text_of_what_is_read s h e = text_read s (a_head h) (sym e) refl
+pub text_of_what_is_read : (s : List ℕ) (h : OpusHead) → head_read s ≡ Ok h → head_text s ≡ head_lines h
+text_of_what_is_read s h e = text_read s (Ok h) (sym e) h refl
 
 -- ---- 2. Any other bytes have a line, `refused` and the number of the refusal: -22, -23 or -24.
-pub text_of_a_refusal : (s : List ℕ) (e : Refusal) → head_read s ≡ no_head e → head_text s ≡ refusal (refusal_number e)
-text_of_a_refusal s e r = text_refused s (no_head e) (sym r) e refl
+pub text_of_a_refusal : (s : List ℕ) (e : Refusal) → head_read s ≡ Err e → head_text s ≡ refusal (refusal_number e)
+text_of_a_refusal s e r = text_refused s (Err e) (sym r) e refl
 
 pub every_text : (s : List ℕ)
-    → ((h : OpusHead) × ((head_read s ≡ a_head h) × (head_text s ≡ head_lines h)))
+    → ((h : OpusHead) × ((head_read s ≡ Ok h) × (head_text s ≡ head_lines h)))
     ⊎ ((head_text s ≡ refusal (negsuc 21)) ⊎ ((head_text s ≡ refusal (negsuc 22)) ⊎ (head_text s ≡ refusal (negsuc 23))))
 every_text s = texts s (reading_answers s)
 

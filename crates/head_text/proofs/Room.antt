@@ -17,8 +17,8 @@ use Rattle.opus_head.specs.declared.OpusHead.{OpusHead}
 use Rattle.show.specs.Text.{decimal, number_text}
 use Rattle.show.proofs.Digits.{decimal_most}
 use Rattle.show.proofs.Signed.{integer_most}
-use Rattle.head_text.specs.Labels.{version_label, channels_label, skip_label, samples_end, rate_label, hertz_end, gain_label, gain_end}
-use Rattle.head_text.specs.Labels.{family_label, streams_label, coupled_label, mapping_label}
+use Rattle.head_text.specs.Labels.{version_label, channels_label, skip_label, samples_end, rate_label, hertz_end}
+use Rattle.head_text.specs.Labels.{family_label, streams_label, coupled_label}
 use Rattle.head_text.specs.Text.{gain_line, entry_texts, mapping_line, opening_lines, sound_lines, stream_lines, head_lines}
 use Rattle.head_text.proofs.Texts.{wider}
 
@@ -30,7 +30,6 @@ byte_most : (label : List ℕ) (n : ℕ) → n < 256 → length (number_text lab
 byte_most label n h = omega (arith, line_most_lem label n (10 ∷ []) 2 (omega arith))
 
 gain_most : (x : ℤ) → SFits w16 x → length (gain_line x) ≤ 29
-unfolding gain_label gain_end
 gain_most x f = simp length-append (omega (arith, integer_most x (wider x f)))
 
 entries_most : (es : List ℕ) → Bytes es → length (entry_texts es) ≤ 4 * length es
@@ -40,7 +39,6 @@ entries_most (e ∷ es) b =
     omega (arith, length-append (32 ∷ decimal e) (entry_texts es), decimal_most e 2 (omega (arith, b.byte 0)), entries_most es (bytes_tail b))
 
 mapping_most : (es : List ℕ) → Bytes es → length es ≤ 255 → length (mapping_line es) ≤ 1028
-unfolding mapping_label
 mapping_most es b h = simp length-append (omega (arith, entries_most es b))
 
 -- ---- three lines at a time
@@ -48,20 +46,20 @@ three_most : {i j k : ℕ} (a b c : List ℕ) → length a ≤ i → length b �
 three_most a b c h m n = omega (arith, length-append a (b ++ c), length-append b c)
 
 opening_most : (version channels skip : ℕ) → version < 256 → channels < 256 → skip < 65536 → length (opening_lines version channels skip) ≤ 48
-unfolding opening_lines version_label channels_label skip_label samples_end
+unfolding opening_lines
 opening_most version channels skip h k m =
     three_most (number_text version_label version (10 ∷ [])) (number_text channels_label channels (10 ∷ [])) (number_text skip_label skip samples_end)
     (byte_most version_label version h) (byte_most channels_label channels k) (line_most_lem skip_label skip samples_end 4 (omega arith))
 
 sound_most : (rate : ℕ) (gain : ℤ) (family : ℕ) → rate < 2 ^ 32 → SFits w16 gain → family < 256 → length (sound_lines rate gain family) ≤ 65
-unfolding sound_lines rate_label hertz_end family_label
+unfolding sound_lines
 sound_most rate gain family h f k =
     three_most (number_text rate_label rate hertz_end) (gain_line gain) (number_text family_label family (10 ∷ []))
     (line_most_lem rate_label rate hertz_end 9 (omega arith)) (gain_most gain f) (byte_most family_label family k)
 
 streams_most : (streams coupled : ℕ) (es : List ℕ) → streams < 256 → coupled < 256 → Bytes es → length es ≤ 255
     → length (stream_lines streams coupled es) ≤ 1052
-unfolding stream_lines streams_label coupled_label
+unfolding stream_lines
 streams_most streams coupled es h k b m =
     three_most (number_text streams_label streams (10 ∷ [])) (number_text coupled_label coupled (10 ∷ [])) (mapping_line es)
     (byte_most streams_label streams h) (byte_most coupled_label coupled k) (mapping_most es b m)

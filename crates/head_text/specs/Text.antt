@@ -40,10 +40,10 @@ head_lines h =
     ++ (sound_lines h.rate h.gain h.family ++ stream_lines h.streams h.coupled (take h.channels h.mapping))
 
 -- ---- the text
-abbrev pub answer_text : Result (Unit {0}) Refusal → OpusHead → List ℕ
-answer_text (Ok tt) h = head_lines h
-answer_text (Err e) h = refusal (refusal_number e)
+abbrev pub answer_text : Result OpusHead Refusal → List ℕ
+answer_text (Ok h) = head_lines h
+answer_text (Err e) = refusal (refusal_number e)
 
 -- of bytes of any number: what a header is followed by is for `head_read` to judge
 unfoldable pub head_text : List ℕ → List ℕ
-head_text s = answer_text (head_read s).verdict (head_read s).head
+head_text s = answer_text (head_read s)

@@ -2,6 +2,8 @@
 #![tactic(auto)]
 
 ghost use Rattle.std.specs.Prelude.{◌≡◌, ◌++◌, ◌+◌, ◌≤◌, length};
+ghost use Rattle.std.proofs.lemmas.List.Edits.{sets};
+ghost use Rattle.io.specs.Counts.{IsPrefixLen};
 ghost use Rattle.opus_head.specs.Parts.{fields_of};
 ghost use Rattle.show.specs.Text.{number_text};
 ghost use Rattle.head_text.specs.Text.{gain_line, entry_texts, mapping_line, opening_lines, sound_lines, stream_lines, head_lines, head_text};
@@ -20,7 +22,7 @@ fn put_number_line<const N: usize>(text: &mut TextBuf<N>, label: &[u8], n: usize
     text.put(end);
 }
 
-#[tactic(auto, using(crate::proofs::Texts::gains), unfolding(crate::specs::Labels::gain_label, crate::specs::Labels::gain_end))]
+#[tactic(auto, using(crate::proofs::Texts::gains))]
 fn put_gain<const N: usize>(text: &mut TextBuf<N>, gain: i16)
     requires { length text.old + length (gain_line gain) ≤ N }
     ensures { text.new ≡ text.old ++ gain_line gain }
@@ -39,7 +41,6 @@ fn put_entries<const N: usize>(text: &mut TextBuf<N>, es: &[u8])
     }
 }
 
-#[tactic(auto, unfolding(crate::specs::Labels::mapping_label))]
 fn put_mapping<const N: usize>(text: &mut TextBuf<N>, es: &[u8])
     requires { length text.old + length (mapping_line es.now) ≤ N }
     ensures { text.new ≡ text.old ++ mapping_line es.now }
@@ -51,7 +52,7 @@ fn put_mapping<const N: usize>(text: &mut TextBuf<N>, es: &[u8])
 
 // ---- three lines at a time
 
-#[tactic(auto, unfolding(crate::specs::Text::opening_lines, crate::specs::Labels::version_label, crate::specs::Labels::channels_label, crate::specs::Labels::skip_label, crate::specs::Labels::samples_end))]
+#[tactic(auto, unfolding(crate::specs::Text::opening_lines))]
 fn put_opening<const N: usize>(text: &mut TextBuf<N>, version: u8, channels: u8, skip: u16)
     requires { length text.old + length (opening_lines version channels skip) ≤ N }
     ensures { text.new ≡ text.old ++ opening_lines version channels skip }
@@ -61,7 +62,7 @@ fn put_opening<const N: usize>(text: &mut TextBuf<N>, version: u8, channels: u8,
     put_number_line(text, b"pre-skip ", usize::from(skip), b" samples\n");
 }
 
-#[tactic(auto, unfolding(crate::specs::Text::sound_lines, crate::specs::Labels::rate_label, crate::specs::Labels::hertz_end, crate::specs::Labels::family_label))]
+#[tactic(auto, unfolding(crate::specs::Text::sound_lines))]
 fn put_sound<const N: usize>(text: &mut TextBuf<N>, rate: u32, gain: i16, family: u8)
     requires { length text.old + length (sound_lines rate gain family) ≤ N }
     ensures { text.new ≡ text.old ++ sound_lines rate gain family }
@@ -71,7 +72,7 @@ fn put_sound<const N: usize>(text: &mut TextBuf<N>, rate: u32, gain: i16, family
     put_number_line(text, b"family ", usize::from(family), b"\n");
 }
 
-#[tactic(auto, unfolding(crate::specs::Text::stream_lines, crate::specs::Labels::streams_label, crate::specs::Labels::coupled_label))]
+#[tactic(auto, unfolding(crate::specs::Text::stream_lines))]
 fn put_streams<const N: usize>(text: &mut TextBuf<N>, streams: u8, coupled: u8, es: &[u8])
     requires { length text.old + length (stream_lines streams coupled es.now) ≤ N }
     ensures { text.new ≡ text.old ++ stream_lines streams coupled es.now }
@@ -123,22 +124,32 @@ fn put_head<const N: usize>(text: &mut TextBuf<N>, head: OpusHead)
     );
 }
 
-// Puts the text of the header at the front of `data`: its fields, or the line `refused` with the refusal's number.
-pub fn put_text<const N: usize>(data: &[u8], text: &mut TextBuf<N>)
+fn build_text<const N: usize>(data: &[u8], text: &mut TextBuf<N>)
     requires { length text.old + 1165 ≤ N }
     ensures { text.new ≡ text.old ++ head_text «data».now }
 {
-    let read = opus_head::head_read(data);
-    let verdict = read.verdict;
-    match verdict {
-        Ok(()) => put_head(text, read.head),
+    match opus_head::head_read(data) {
+        Ok(head) => put_head(text, head),
         Err(e) => text.put_refused(opus_defines::refusal_number(e)),
     }
+}
+
+// Puts the text of the header at the front of `data`: its fields, or the line `refused` with the refusal's number.
+#[tactic(auto, using(crate::proofs::Promises::text_has_room))]
+pub fn put_text(data: &[u8], out: &mut [u8]) -> usize
+    requires { 1165 ≤ length out.old }
+    ensures bytes { out.new ≡ sets out.old 0 (head_text «data».now) }
+    ensures next { result ≡ length (head_text «data».now) }
+    ensures within { IsPrefixLen result out.new }
+{
+    let mut text: TextBuf<1165> = TextBuf::new();
+    build_text(data, &mut text);
+    text.copy_to(out)
 }
 
 // Prints the text; where that fails it is told.
 pub fn print(data: &[u8]) {
     let mut text: TextBuf<1165> = TextBuf::new();
-    put_text(data, &mut text);
+    build_text(data, &mut text);
     let _ = stdio::print(text.as_bytes());
 }

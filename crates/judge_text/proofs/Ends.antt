@@ -1,6 +1,6 @@
 -- What is said of a buffer in which a part of the text stands.
 --     closed_open, closing_room, closed-done     lines that are to be gone on with, and those behind which the totals stand
---     ends_read, ends_small, refused_room, ends_refused     a part: closed lines, nothing, or the refusal
+--     ends_read, ends_small, refused_line, refused_room, ends_refused     a part: closed lines, nothing, or the refusal
 --     Going, going_start, going_less, going_on     a buffer that is used for part after part
 -- Assumes nothing.
 use Prim.Native.Nat.{ℕ, ◌+◌, ◌≤◌, ◌<◌}
@@ -78,8 +78,11 @@ module _ (s : List ℕ) (at : ℕ) (t : Tally) (l : List ℕ) where
     number_is : to_z w32 (of_z w32 x) ≡ refusal_number BadArg
     number_is = rw e (refusal_passed BadArg)
 
+    pub refused_line : length (refusal (to_z w32 (of_z w32 x))) ≤ part_most
+    refused_line = rw number_is (omega (arith, refusal_most BadArg))
+
     pub refused_room : length (refusal (to_z w32 (of_z w32 x))) ≤ length l
-    refused_room = rw number_is (omega (arith, refusal_most BadArg))
+    refused_room = omega (arith, refused_line)
 
     pub ends_refused : most_capture < length s → {d : List ℕ} {n : ℕ} → d ≡ sets l 0 (refusal (to_z w32 (of_z w32 x)))
         → n ≡ length (refusal (to_z w32 (of_z w32 x))) → Said d (record { bytes = n; next = length s; tally = t; done = true })

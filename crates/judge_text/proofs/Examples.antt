@@ -16,9 +16,9 @@ use Rattle.capture.specs.Finding.{packet_length, packet_at, before, record_from,
 use Rattle.capture.specs.Reading.{record_bytes, readings_in}
 use Rattle.show.specs.Text.{places, decimal}
 use Rattle.packet_judge.specs.Tallies.{tally_of, none}
-use Rattle.judge_text.specs.Text.{unreadable_label, dirty_text, longer_label, clean_text, verdict_line, verdict_lines, verdicts_of, judgements, judge_text}
+use Rattle.judge_text.specs.Text.{verdict_line, verdict_lines, verdicts_of, judgements, judge_text}
 use Rattle.judge_text.specs.Text.{lines_in, part_from, printed}
-use Rattle.judge_text.specs.Text.{total_unreadable, total_dirty, total_longer, total_clean, totals}
+use Rattle.judge_text.specs.Text.{totals}
 use Rattle.judge_text.proofs.Promises.{text_read}
 
 -- a byte, records with the packets 03; 03 41 01 AA 07, 03 41 01 07; 03 41 01 AA 00, 03 01, 02 00; 00, 01, 00 AA, 78 AA BB, and a byte
@@ -57,7 +57,7 @@ lines =
     ∷ 116 ∷ 97 ∷ 108 ∷ 32 ∷ 99 ∷ 108 ∷ 101 ∷ 97 ∷ 110 ∷ 32 ∷ 52 ∷ 10 ∷ []
 
 pub example_lines : verdict_lines verdicts ++ totals (tally_of verdicts) ≡ lines
-unfolding verdict_lines verdict_line unreadable_label dirty_text longer_label clean_text totals total_unreadable total_dirty total_longer total_clean
+unfolding verdict_lines verdict_line totals
     decimal places
 example_lines = refl
 
@@ -66,8 +66,7 @@ example_text = text_read sample (omega arith) ∙ rw example_verdicts example_li
 
 -- by parts, through 90 bytes: one or two lines at a time, then the totals
 pub example_parts : printed 12 sample 0 none 90 ≡ lines
-unfolding printed part_from lines_in verdict_line unreadable_label dirty_text longer_label clean_text totals total_unreadable total_dirty
-    total_longer total_clean
+unfolding printed part_from lines_in verdict_line totals
     decimal places judged judge_read least_bytes read duration compact header packet_at packet_length next_record record_from before record_bytes
 example_parts = refl
 
@@ -83,7 +82,7 @@ empty_lines : verdict_lines [] ++ totals (tally_of [])
     ∷ 105 ∷ 114 ∷ 116 ∷ 121 ∷ 32 ∷ 48 ∷ 10 ∷ 116 ∷ 111 ∷ 116 ∷ 97 ∷ 108 ∷ 32 ∷ 108 ∷ 111 ∷ 110 ∷ 103 ∷ 101 ∷ 114
     ∷ 32 ∷ 48 ∷ 10 ∷ 116 ∷ 111 ∷ 116
     ∷ 97 ∷ 108 ∷ 32 ∷ 99 ∷ 108 ∷ 101 ∷ 97 ∷ 110 ∷ 32 ∷ 48 ∷ 10 ∷ []
-unfolding verdict_lines totals total_unreadable total_dirty total_longer total_clean decimal places
+unfolding verdict_lines totals decimal places
 empty_lines = refl
 
 pub empty_text : judge_text []

@@ -63,7 +63,7 @@ module _ {s : List ℕ} {start : ℕ} {t₀ : Tally} {l d : List ℕ} {at n : �
       pub turn_judged : (c : Refusal) → j ≡ Refused c → ⊥
       turn_judged = rw q (never_refused s a.place short)
 
-      turn_line : length (verdict_line j) ≤ 19
+      pub turn_line : length (verdict_line j) ≤ 19
       turn_line = line_most_lem j (rw q (verdict_small s a.place short bytes))
 
       pub turn_room : n + length (verdict_line j) ≤ length d

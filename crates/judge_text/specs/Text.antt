@@ -18,16 +18,16 @@ use Rattle.judge_text.specs.declared.Lines.{Lines}
 
 -- ---- lines
 -- "unreadable ", "dirty", "longer " and "clean", the second and the fourth with the end of the line
-unfoldable pub unreadable_label : List ℕ
+abbrev pub unreadable_label : List ℕ
 unreadable_label = 117 ∷ 110 ∷ 114 ∷ 101 ∷ 97 ∷ 100 ∷ 97 ∷ 98 ∷ 108 ∷ 101 ∷ 32 ∷ []
 
-unfoldable pub dirty_text : List ℕ
+abbrev pub dirty_text : List ℕ
 dirty_text = 100 ∷ 105 ∷ 114 ∷ 116 ∷ 121 ∷ 10 ∷ []
 
-unfoldable pub longer_label : List ℕ
+abbrev pub longer_label : List ℕ
 longer_label = 108 ∷ 111 ∷ 110 ∷ 103 ∷ 101 ∷ 114 ∷ 32 ∷ []
 
-unfoldable pub clean_text : List ℕ
+abbrev pub clean_text : List ℕ
 clean_text = 99 ∷ 108 ∷ 101 ∷ 97 ∷ 110 ∷ 10 ∷ []
 
 abbrev pub unreadable_line : Rule → ℕ → List ℕ
@@ -46,16 +46,16 @@ verdict_lines [] = []
 verdict_lines (j ∷ more) = verdict_line j ++ verdict_lines more
 
 -- "total unreadable ", "total dirty ", "total longer " and "total clean "
-unfoldable pub total_unreadable : List ℕ
+abbrev pub total_unreadable : List ℕ
 total_unreadable = 116 ∷ 111 ∷ 116 ∷ 97 ∷ 108 ∷ 32 ∷ 117 ∷ 110 ∷ 114 ∷ 101 ∷ 97 ∷ 100 ∷ 97 ∷ 98 ∷ 108 ∷ 101 ∷ 32 ∷ []
 
-unfoldable pub total_dirty : List ℕ
+abbrev pub total_dirty : List ℕ
 total_dirty = 116 ∷ 111 ∷ 116 ∷ 97 ∷ 108 ∷ 32 ∷ 100 ∷ 105 ∷ 114 ∷ 116 ∷ 121 ∷ 32 ∷ []
 
-unfoldable pub total_longer : List ℕ
+abbrev pub total_longer : List ℕ
 total_longer = 116 ∷ 111 ∷ 116 ∷ 97 ∷ 108 ∷ 32 ∷ 108 ∷ 111 ∷ 110 ∷ 103 ∷ 101 ∷ 114 ∷ 32 ∷ []
 
-unfoldable pub total_clean : List ℕ
+abbrev pub total_clean : List ℕ
 total_clean = 116 ∷ 111 ∷ 116 ∷ 97 ∷ 108 ∷ 32 ∷ 99 ∷ 108 ∷ 101 ∷ 97 ∷ 110 ∷ 32 ∷ []
 
 unfoldable pub totals : Tally → List ℕ

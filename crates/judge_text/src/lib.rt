@@ -1,7 +1,7 @@
 // The text of the program `judge`: a verdict for each record of a capture, then the four totals, put into a buffer part by part.
 #![tactic(auto)]
 
-ghost use Rattle.std.specs.Prelude.{◌≡◌, false, ◌+◌, ◌≤◌, length};
+ghost use Rattle.std.specs.Prelude.{◌≡◌, ◌++◌, false, ◌+◌, ◌≤◌, length};
 ghost use Rattle.std.proofs.lemmas.List.Edits.{sets};
 ghost use Rattle.io.specs.Counts.{IsPrefixLen};
 ghost use Rattle.opus_defines.specs.declared.Refusal.{Refusal as Defines-as-Refusal};
@@ -13,8 +13,9 @@ ghost use Rattle.packet_judge.specs.Tallies.{sum_of};
 ghost use Rattle.judge_text.specs.Text.{unreadable_line, verdict_line, totals, ending, lines_in, closed, part_from, lines_of};
 
 use captures_text::MOST_CAPTURE;
-use opus_defines::{Refusal, Rule, wide};
+use opus_defines::{Refusal, Rule};
 use packet_judge::{Judged, Tally};
+use show::TextBuf;
 
 // The longest text that is put at once, in bytes: the four totals, with 5 digits each.
 pub const PART_MOST: usize = 78;
@@ -30,41 +31,64 @@ pub struct Lines {
 
 // ---- lines
 
-fn put_unreadable(out: &mut [u8], at: usize, rule: Rule, place: usize) -> usize
-    requires { at + length (unreadable_line rule place) ≤ length out.old }
-    ensures bytes { out.new ≡ sets out.old at (unreadable_line rule place) }
-    ensures next { result ≡ at + length (unreadable_line rule place) }
+fn build_unreadable<const N: usize>(line: &mut TextBuf<N>, rule: Rule, place: usize)
+    requires { length line.old + length (unreadable_line rule place) ≤ N }
+    ensures { line.new ≡ line.old ++ unreadable_line rule place }
 {
-    let number = wide(opus_defines::rule_number(rule));
-    let next = show::put_named(out, at, b"unreadable ", number);
-    show::put_line(out, next, b" ", place)
+    let number = usize::from(opus_defines::rule_number(rule));
+    line.put_named(b"unreadable ", number);
+    line.put_line(b" ", place);
 }
 
 // The line of a verdict. A packet of a capture is never refused.
+#[tactic(auto, unfolding(crate::specs::Text::verdict_line))]
+fn build_verdict<const N: usize>(line: &mut TextBuf<N>, j: Judged)
+    requires judged { (e : Defines-as-Refusal) → j ≡ Refused e → ⊥ }
+    requires room { length line.old + length (verdict_line j) ≤ N }
+    ensures { line.new ≡ line.old ++ verdict_line j }
+{
+    match j {
+        Judged::Refused(_) => {}
+        Judged::Unreadable(rule, place) => build_unreadable(line, rule, place),
+        Judged::Dirty => line.put(b"dirty\n"),
+        Judged::Longer(least) => line.put_line(b"longer ", least),
+        Judged::Clean => line.put(b"clean\n"),
+    }
+}
+
 fn put_verdict(out: &mut [u8], at: usize, j: Judged) -> usize
     requires judged { (e : Defines-as-Refusal) → j ≡ Refused e → ⊥ }
+    requires most { length (verdict_line j) ≤ 19 }
     requires room { at + length (verdict_line j) ≤ length out.old }
     ensures bytes { out.new ≡ sets out.old at (verdict_line j) }
     ensures next { result ≡ at + length (verdict_line j) }
 {
-    match j {
-        Judged::Refused(_) => at,
-        Judged::Unreadable(rule, place) => put_unreadable(out, at, rule, place),
-        Judged::Dirty => show::put_text(out, at, b"dirty\n"),
-        Judged::Longer(least) => show::put_line(out, at, b"longer ", least),
-        Judged::Clean => show::put_text(out, at, b"clean\n"),
-    }
+    let mut line: TextBuf<19> = TextBuf::new();
+    build_verdict(&mut line, j);
+    line.copy_at(out, at)
 }
 
+#[tactic(auto, unfolding(crate::specs::Text::totals))]
+fn build_totals<const N: usize>(lines: &mut TextBuf<N>, t: Tally)
+    requires { length lines.old + length (totals t) ≤ N }
+    ensures { lines.new ≡ lines.old ++ totals t }
+{
+    lines.put_line(b"total unreadable ", t.unreadable);
+    lines.put_line(b"total dirty ", t.dirty);
+    lines.put_line(b"total longer ", t.longer);
+    lines.put_line(b"total clean ", t.clean);
+}
+
+// There is room for 20 digits each.
+#[tactic(auto, using(crate::proofs::Line::totals_any))]
 fn put_totals(out: &mut [u8], at: usize, t: Tally) -> usize
     requires { at + length (totals t) ≤ length out.old }
     ensures bytes { out.new ≡ sets out.old at (totals t) }
     ensures next { result ≡ at + length (totals t) }
 {
-    let mut next = show::put_line(out, at, b"total unreadable ", t.unreadable);
-    next = show::put_line(out, next, b"total dirty ", t.dirty);
-    next = show::put_line(out, next, b"total longer ", t.longer);
-    show::put_line(out, next, b"total clean ", t.clean)
+    let mut lines: TextBuf<138> = TextBuf::new();
+    build_totals(&mut lines, t);
+    lines.copy_at(out, at)
 }
 
 // ---- verdicts
@@ -155,7 +179,9 @@ pub fn put_part(data: &[u8], start: usize, tally: Tally, out: &mut [u8]) -> Line
             done: false,
         };
     }
-    let bytes = show::put_refused(out, opus_defines::refusal_number(Refusal::BadArg));
+    let mut line: TextBuf<PART_MOST> = TextBuf::new();
+    line.put_refused(opus_defines::refusal_number(Refusal::BadArg));
+    let bytes = line.copy_to(out);
     Lines {
         bytes,
         next: data.len(),

@@ -1,7 +1,7 @@
 -- Which text the listing is, by the reader's answer.
 --     Read, listing-read                       an accepted packet
 --     refused_room, listing_refused            a refused one
---     answers                                  the bytes and their count, for a text that is the listing
+--     listing_most                             how long any listing is
 -- Assumes nothing.
 use Prim.Native.Nat.{ℕ, ◌+◌, ◌≤◌, ◌<◌}
 use native.Mathlib.Omega.{arith}
@@ -10,18 +10,16 @@ use mathlib.Core.List.{List}
 use mathlib.Core.Bool.{false}
 use lib.Dec.{ltb}
 use lib.ListN.{length}
-use lib.Seq.{sets}
 use mir.Syntax.{w32}
 use mir.Val.{to_z, of_z}
 use borrow.Author.Tests.{ltb-false, le-ltb, ltb-true}
-use Rattle.io.specs.Counts.{IsPrefixLen}
 use Rattle.laws.specs.Bytes.{Bytes}
 use Rattle.laws.proofs.Never.{never, by_test}
 use Rattle.opus_defines.specs.Numbers.{refusal_report}
 use Rattle.opus_defines.specs.declared.Refusal.{Refusal}
 use Rattle.opus_defines.specs.declared.Refusal.TheVariants.{BadArg}
 use Rattle.opus_defines.specs.declared.Report.{Report}
-use Rattle.std.specs.Prelude.{Err, Ok}
+use Rattle.std.specs.Prelude.{Err, Ok, Result}
 use Rattle.opus_size.specs.Size.{most_bytes}
 use Rattle.opus_toc.specs.Toc.{upper_six}
 use Rattle.opus_format.specs.Frames.{total, longest}
@@ -36,15 +34,10 @@ use Rattle.opus_header.specs.Sums.{sums_of}
 use Rattle.opus_header.specs.Forms.{compact_bytes}
 use Rattle.opus_header.proofs.Forms.{compact-front, sums_few}
 use Rattle.opus_header.proofs.Standing.{compact_needs}
-use Rattle.show.proofs.Laid.{front_counts}
 use Rattle.opus_defines.proofs.Others.{refusal_few, report_rule, refusal_passed}
 use Rattle.opus_defines.proofs.Outcomes.{rule_report}
 use Rattle.listing_text.specs.Listing.{packet_text, report_line, refused_line, listed, listing}
 use Rattle.listing_text.proofs.Room.{packet_most, report_most}
-
-pub answers : (l p t : List ℕ) {d : List ℕ} {n : ℕ} → listing p ≡ t → length t ≤ length l → d ≡ sets l 0 t → n ≡ length t
-    → (d ≡ sets l 0 (listing p)) × ((n ≡ length (listing p)) × IsPrefixLen n d)
-answers l p t e h b n = rw e (b, (n, rw (b, n) (front_counts l t h)))
 
 -- ---- a packet p that was read, with the reader's answer r
 -- the bytes of its compact packet, as they are counted
@@ -99,8 +92,8 @@ module _ (p : List ℕ) (c : Refusal) (e : Err c ≡ parsed false p) where
     line_is : report_line (to_z w32 (of_z w32 x.number)) x.rule x.place ≡ refused_line c
     line_is = rw (n, refusal_passed c)
 
-    pub refused_room : (l : List ℕ) → 2048 ≤ length l → length (report_line (to_z w32 (of_z w32 x.number)) x.rule x.place) ≤ length l
-    refused_room l h = rw line_is (omega (arith, line_most_lem c place_few))
+    pub refused_room : length (report_line (to_z w32 (of_z w32 x.number)) x.rule x.place) ≤ 2048
+    refused_room = rw line_is (omega (arith, line_most_lem c place_few))
 
     pub listing_refused : listing p ≡ report_line (to_z w32 (of_z w32 x.number)) x.rule x.place
     unfolding listing listed
@@ -112,3 +105,11 @@ module _ (p : List ℕ) (c : Refusal) (e : Err c ≡ parsed false p) where
         go : Err c ≡ packet_of (read false p) → (y : Reading) → read false p ≡ y → listed p (read false p) ≡ refused_line c
         go f (refused rule place) q = rw q (let y = rw q at f in cc)
         go f (accepted toc ns first taken) q = never (let y = rw q at f in cc)
+
+-- ---- any packet
+pub listing_most : (p : List ℕ) → Bytes p → length (listing p) ≤ 2048
+listing_most p bytes = go (parsed false p) refl
+  where
+    go : (y : Result Packet Refusal) → y ≡ parsed false p → length (listing p) ≤ 2048
+    go (Ok r) e = let d = listing-read p r bytes e in rw d.text d.room
+    go (Err c) e = rw (listing_refused p c e (refusal_report c) refl) (refused_room p c e (refusal_report c) refl)

@@ -11,7 +11,6 @@ use Rattle.opus_format.specs.Reading.{read}
 use Rattle.opus_header.specs.Header.{header}
 use Rattle.opus_header.specs.Compact.{compact}
 use Rattle.show.specs.Text.{places, decimal, integer, refused_label}
-use Rattle.listing_text.specs.Labels.{toc_label, count_label, time_label, payload_label, packet_label, compact_label, frame_label, at_label, length_label}
 use Rattle.listing_text.specs.Listing.{frame_line, frame_lines, times, sizes, packet_text, report_line, listed, listing}
 
 -- a line of it to a line, and to two where it says where a frame stands
@@ -30,7 +29,6 @@ example =
 
 pub example_listing : listing (3 ∷ 2 ∷ 170 ∷ 187 ∷ []) ≡ example
 unfolding example listing listed packet_text times sizes frame_lines frame_line decimal places read compact header duration samples
-    toc_label count_label time_label payload_label packet_label compact_label frame_label at_label length_label
 example_listing = refl
 
 -- two frames that were not sent last as long
@@ -49,7 +47,6 @@ silence =
 
 pub silence_takes_time : listing (3 ∷ 2 ∷ []) ≡ silence
 unfolding silence listing listed packet_text times sizes frame_lines frame_line decimal places read compact header duration samples
-    toc_label count_label time_label payload_label packet_label compact_label frame_label at_label length_label
 silence_takes_time = refl
 
 -- "refused -4 1 0" for no byte at all, "refused -4 5 1" for 03 00, "refused -1 0 0" for any packet above 65,535 bytes

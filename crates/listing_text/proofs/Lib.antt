@@ -1,4 +1,3 @@
-pub mod Texts
 pub mod Frames
 pub mod Room
 pub mod Answers

@@ -10,14 +10,13 @@ use Rattle.opus_toc.specs.Toc.{time}
 use Rattle.opus_format.specs.Frames.{total}
 use Rattle.show.specs.Text.{decimal, integer, refused_label}
 use Rattle.show.proofs.Digits.{decimal_most}
-use Rattle.listing_text.specs.Labels.{toc_label, count_label, time_label, payload_label, packet_label, compact_label, frame_label, at_label, length_label}
 use Rattle.listing_text.specs.Listing.{frame_line, frame_lines, times, sizes, packet_text, report_line}
 
 digits_most : (n : ℕ) → n < 100000 → length (decimal n) ≤ 5
 digits_most n h = decimal_most n 4 h
 
 frame_most : (i place n : ℕ) → i < 100000 → place < 100000 → n < 100000 → length (frame_line i place n) ≤ 34
-unfolding frame_line frame_label at_label length_label
+unfolding frame_line
 frame_most i place n h k m =
     simp length-append (omega (arith, digits_most i h, digits_most place k, digits_most n m))
 
@@ -33,12 +32,12 @@ lines_most i at (n ∷ ns) h k =
     )
 
 times_most : (toc : ℕ) (ns : List ℕ) → toc < 100000 → length ns ≤ 48 → time toc (length ns) < 100000 → length (times toc ns) ≤ 33
-unfolding times toc_label count_label time_label
+unfolding times
 times_most toc ns h k m =
     simp length-append (omega (arith, digits_most toc h, digits_most (length ns) (omega arith), digits_most (time toc (length ns)) m))
 
 sizes_most : (first taken small : ℕ) → first < 100000 → taken < 100000 → small < 100000 → length (sizes first taken small) ≤ 41
-unfolding sizes payload_label packet_label compact_label
+unfolding sizes
 sizes_most first taken small h k m =
     simp length-append (omega (arith, digits_most first h, digits_most taken k, digits_most small m))
 

@@ -7,7 +7,7 @@ use opus_defines::{Rule, wide};
 use opus_parts::padding_at::read_padding;
 
 // How many frames, the bytes of each, and the place of the first; or the rule that is broken and where. `Other` is any other packet, which `read_into` reads.
-#[derive(Clone, Copy)]
+#[derive(Clone, Copy, Debug, PartialEq, Eq)]
 pub enum Equal {
     Same(u16, u16, usize),
     Wrong(Rule, usize),

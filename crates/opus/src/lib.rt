@@ -242,7 +242,7 @@ pub fn read_packet(
 
 // A packet of one or two frames: their lengths, and the place of the first; or the rule that is broken and where. `Counted` is code 3, which
 // `read_into` reads.
-#[derive(Clone, Copy)]
+#[derive(Clone, Copy, Debug, PartialEq, Eq)]
 pub enum Short {
     One(u16, usize),
     Two(u16, u16, usize),

@@ -18,30 +18,31 @@ use Rattle.opus_defines.specs.Outcome.{refuses, writes}
 use Rattle.opus_defines.proofs.Outcomes.{meets}
 use Rattle.opus_defines.specs.declared.Refusal.TheVariants.{BufferTooSmall, BadHeader, UnknownVersion, BadField}
 use Rattle.opus_defines.specs.declared.Report.{Report}
+use Rattle.std.specs.Prelude.{Err}
 use Rattle.opus_head.specs.declared.OpusHead.{OpusHead}
 use Rattle.opus_head.specs.Header.{letters, head_bytes}
-use Rattle.opus_head.specs.Reading.{begins, needed, long_as, ruled, no_head, head_of, head_read, head_written, head_write, bytes_needed}
+use Rattle.opus_head.specs.Reading.{begins, needed, long_as, ruled, head_of, head_read, head_written, head_write, bytes_needed}
 use Rattle.opus_head.specs.Parts.{checked}
 use Rattle.opus_head.proofs.Laid.{bytes_long, passed, passed_is}
 
 -- ---- reading
 module _ (s : List ℕ) where
-  pub read_short : length s < 19 → head_read s ≡ no_head BadHeader
+  pub read_short : length s < 19 → head_read s ≡ Err BadHeader
   unfolding head_read
   read_short h = rw (lt-ltb (length s) 19 h)
 
   module _ (h : 19 ≤ length s) where
-    pub read_letters : begins letters s ≡ false → head_read s ≡ no_head BadHeader
+    pub read_letters : begins letters s ≡ false → head_read s ≡ Err BadHeader
     unfolding head_read
     read_letters b = rw (le-ltb (length s) 19 h, b)
 
     module _ (b : begins letters s ≡ true) where
-      pub read-version : 15 < get_or s 8 0 → head_read s ≡ no_head UnknownVersion
+      pub read-version : 15 < get_or s 8 0 → head_read s ≡ Err UnknownVersion
       unfolding head_read
       read-version v = rw (le-ltb (length s) 19 h, b, lt-ltb 15 (get_or s 8 0) v)
 
       module _ (v : get_or s 8 0 ≤ 15) where
-        pub read_length : long_as (get_or s 8 0) (length s) (needed s) ≡ false → head_read s ≡ no_head BadHeader
+        pub read_length : long_as (get_or s 8 0) (length s) (needed s) ≡ false → head_read s ≡ Err BadHeader
         unfolding head_read
         read_length l = rw (le-ltb (length s) 19 h, b, le-ltb 15 (get_or s 8 0) v, l)
 

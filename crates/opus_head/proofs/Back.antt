@@ -9,9 +9,10 @@ use lib.Seq.{sets}
 use Rattle.laws.specs.Bytes.{Bytes}
 use Rattle.opus_defines.specs.Outcome.{Outcome, writes}
 use Rattle.blocks.proofs.Sets.{take-sets, drop-sets_past}
+use Rattle.std.specs.Prelude.{Ok}
 use Rattle.opus_head.specs.declared.OpusHead.{OpusHead}
 use Rattle.opus_head.specs.Header.{head_bytes}
-use Rattle.opus_head.specs.Reading.{a_head, head_read, head_write}
+use Rattle.opus_head.specs.Reading.{head_read, head_write}
 use Rattle.opus_head.specs.Heads.{InRange}
 use Rattle.opus_head.proofs.Exactly.{Was, was_lawful, was_whole, accepted}
 use Rattle.opus_head.proofs.Written.{write_all, Done}
@@ -23,7 +24,7 @@ module _ (h : OpusHead) (dst : List ℕ) (n : ℕ) (d : Done h dst n) where
   done_bytes : take n (head_write h dst).bytes ≡ head_bytes h
   done_bytes = rw (left, d.count) (take-sets dst (head_bytes h) d.room)
 
-  pub done_reads : InRange h → head_read (take n (head_write h dst).bytes) ≡ a_head h
+  pub done_reads : InRange h → head_read (take n (head_write h dst).bytes) ≡ Ok h
   done_reads range = rw (done_bytes, ← append-nil (head_bytes h)) (accepted h range d.writable.lawful [] (λ _. refl))
 
   pub done_past : drop n (head_write h dst).bytes ≡ drop n dst

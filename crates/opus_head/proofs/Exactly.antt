@@ -21,11 +21,11 @@ use Rattle.laws.proofs.Never.{never, by_test, cond_elim}
 use Rattle.blocks.proofs.Sets.{length-part_le}
 use Rattle.opus_defines.specs.declared.Refusal.{Refusal}
 use Rattle.opus_defines.specs.declared.Refusal.TheVariants.{BadHeader, UnknownVersion, BadField}
+use Rattle.std.specs.Prelude.{Result, Ok, Err}
 use Rattle.opus_head.specs.declared.OpusHead.{OpusHead}
-use Rattle.opus_head.specs.declared.HeadRead.{HeadRead}
 use Rattle.low_first.specs.Numbers.{number_at}
 use Rattle.opus_head.specs.Header.{letters, table, head_bytes, Lawful}
-use Rattle.opus_head.specs.Reading.{begins, needed, long_as, ruled, entries, no_head, a_head, head_of, head_read, head_with}
+use Rattle.opus_head.specs.Reading.{begins, needed, long_as, ruled, entries, head_of, head_read, head_with}
 use Rattle.opus_head.specs.Parts.{checked}
 use Rattle.opus_head.specs.Heads.{InRange}
 use Rattle.opus_head.proofs.Laid.{fixed_of, bytes_then, bytes_long}
@@ -70,21 +70,21 @@ ways s =
 
 module _ (s : List ℕ) where
   -- what is left to say of a header of the right length is whether its fields obey the rules
-  said : Long s → (b : Bool) → ruled (head_of s) ≡ b → head_read s ≡ cond b (a_head (head_of s)) (no_head BadField)
+  said : Long s → (b : Bool) → ruled (head_of s) ≡ b → head_read s ≡ cond b (Ok (head_of s)) (Err BadField)
   said l b r =
       let g = l.begun in
-      read_fields_lem s g.least g.lettered g.version l.long ∙ ap (λ q. cond q (a_head (head_of s)) (no_head BadField)) r
+      read_fields_lem s g.least g.lettered g.version l.long ∙ ap (λ q. cond q (Ok (head_of s)) (Err BadField)) r
 
-  read_wrong : Begun s → long_as (get_or s 8 0) (length s) (needed s) ≡ false → head_read s ≡ no_head BadHeader
+  read_wrong : Begun s → long_as (get_or s 8 0) (length s) (needed s) ≡ false → head_read s ≡ Err BadHeader
   read_wrong g l = read_length s g.least g.lettered g.version l
 
   -- every reading is accepted, or refused by one of the three
-  pub answers : ((h : OpusHead) × (head_read s ≡ a_head h))
-      ⊎ ((head_read s ≡ no_head BadHeader) ⊎ ((head_read s ≡ no_head UnknownVersion) ⊎ (head_read s ≡ no_head BadField)))
+  pub answers : ((h : OpusHead) × (head_read s ≡ Ok h))
+      ⊎ ((head_read s ≡ Err BadHeader) ⊎ ((head_read s ≡ Err UnknownVersion) ⊎ (head_read s ≡ Err BadField)))
   answers = go (ways s)
     where
-      go : Way s → ((h : OpusHead) × (head_read s ≡ a_head h))
-          ⊎ ((head_read s ≡ no_head BadHeader) ⊎ ((head_read s ≡ no_head UnknownVersion) ⊎ (head_read s ≡ no_head BadField)))
+      go : Way s → ((h : OpusHead) × (head_read s ≡ Ok h))
+          ⊎ ((head_read s ≡ Err BadHeader) ⊎ ((head_read s ≡ Err UnknownVersion) ⊎ (head_read s ≡ Err BadField)))
       go (short h) = inr (inl (read_short s h))
       go (other h b) = inr (inl (read_letters s h b))
       go (unknown h b v) = inr (inr (inl (read-version s h b v)))
@@ -98,10 +98,10 @@ pub record Was (s : List ℕ) (h : OpusHead) : Type 0 where
   pub fits : ruled (head_of s) ≡ true
   pub is : h ≡ head_of s
 
-refused_not : {x : HeadRead} {h : OpusHead} {e : Refusal} → x ≡ a_head h → x ≡ no_head e → ◌≡◌ {A = ℕ} 0 1
-refused_not a r = let z = ap (λ (y : HeadRead). y.verdict) (sym r ∙ a) in cc
+refused_not : {x : Result OpusHead Refusal} {h : OpusHead} {e : Refusal} → x ≡ Ok h → x ≡ Err e → ◌≡◌ {A = ℕ} 0 1
+refused_not a r = let z = sym r ∙ a in cc
 
-pub accepted_was : (s : List ℕ) (h : OpusHead) → head_read s ≡ a_head h → Was s h
+pub accepted_was : (s : List ℕ) (h : OpusHead) → head_read s ≡ Ok h → Was s h
 accepted_was s h a = go (ways s)
   where
     go : Way s → Was s h
@@ -110,7 +110,7 @@ accepted_was s h a = go (ways s)
     go (unknown t b v) = never (refused_not a (read-version s t b v))
     go (wrong g l) = never (refused_not a (read_wrong s g l))
     go (against l r) = never (refused_not a (said s l false r))
-    go (reads l r) = record { long = l; fits = r; is = ap (λ (y : HeadRead). y.head) (sym a ∙ said s l true r) }
+    go (reads l r) = record { long = l; fits = r; is = let z = sym a ∙ said s l true r in cc }
 
 -- the bytes of a header of the right length, whatever is behind them
 module _ (s : List ℕ) (l : Long s) where
@@ -203,12 +203,12 @@ module _ (h : OpusHead) (range : InRange h) (lawful : Lawful h) (rest : List ℕ
   least : 19 ≤ length s
   least = omega (arith, spelled_length, needed_least h.family h.channels)
 
-  spelled_accepted : head_read s ≡ a_head h
+  spelled_accepted : head_read s ≡ Ok h
   spelled_accepted =
       read_fields_lem s least (with_begins letters (drop 8 s)) lawful.version long_right ∙ ap checked (spelled_reads h range lawful rest)
-      ∙ ap (λ q. cond q (a_head h) (no_head BadField)) (lawful_ruled h lawful)
+      ∙ ap (λ q. cond q (Ok h) (Err BadField)) (lawful_ruled h lawful)
 
-  pub accepted : head_read (head_bytes h ++ rest) ≡ a_head h
+  pub accepted : head_read (head_bytes h ++ rest) ≡ Ok h
   accepted = ap head_read is ∙ spelled_accepted
 
 -- ---- of what was accepted
@@ -233,7 +233,7 @@ module _ {s : List ℕ} {h : OpusHead} (w : Was s h) where
     was_whole v = spelled_so ∙ ap (λ r. head_bytes h ++ r) (just s w.long (version_is v)) ∙ append-nil (head_bytes h)
 
 -- ---- the refusals
-pub not_lettered : (s : List ℕ) → (length s < 19) ⊎ ((rest : List ℕ) → s ≡ letters ++ rest → ⊥) → head_read s ≡ no_head BadHeader
+pub not_lettered : (s : List ℕ) → (length s < 19) ⊎ ((rest : List ℕ) → s ≡ letters ++ rest → ⊥) → head_read s ≡ Err BadHeader
 not_lettered s (inl h) = read_short s h
 not_lettered s (inr o) =
     by_test (ltb (length s) 19) (λ t. read_short s (ltb-true (length s) 19 t))
@@ -243,14 +243,14 @@ module _ (s rest : List ℕ) (least : 19 ≤ length s) (e : s ≡ letters ++ res
   starts : begins letters s ≡ true
   starts = ap (begins letters) e ∙ with_begins letters rest
 
-  pub lettered_version : 15 < get_or s 8 0 → head_read s ≡ no_head UnknownVersion
+  pub lettered_version : 15 < get_or s 8 0 → head_read s ≡ Err UnknownVersion
   lettered_version v = read-version s least starts v
 
   module _ (version : get_or s 8 0 ≤ 15) where
     started : Begun s
     started = record { least = least; lettered = starts; version = version }
 
-    pub lettered_length : (length s < needed s) ⊎ ((get_or s 8 0 ≡ 1) × (needed s < length s)) → head_read s ≡ no_head BadHeader
+    pub lettered_length : (length s < needed s) ⊎ ((get_or s 8 0 ≡ 1) × (needed s < length s)) → head_read s ≡ Err BadHeader
     lettered_length o = read_wrong s started (not_long (get_or s 8 0) (length s) (needed s) o)
 
     module _ (bytes : Bytes s) (fits : needed s ≤ length s) (one : get_or s 8 0 ≡ 1 → length s ≡ needed s) where
@@ -269,14 +269,14 @@ module _ (s rest : List ℕ) (least : 19 ≤ length s) (e : s ≡ letters ++ res
           let long : length b ≡ needed s = omega (arith, sum, length-drop (needed s) s) in
           sym (ap (take (needed s)) whole ∙ take_at b (drop (needed s) s) (needed s) long)
 
-      pub lettered_answers : ((h : OpusHead) × (head_read s ≡ a_head h)) ⊎ (head_read s ≡ no_head BadField)
+      pub lettered_answers : ((h : OpusHead) × (head_read s ≡ Ok h)) ⊎ (head_read s ≡ Err BadField)
       lettered_answers = by_test (ruled (head_of s)) (λ r. inl (head_of s, said s right true r)) (λ r. inr (said s right false r))
 
-      pub lettered_fields : ((h : OpusHead) → InRange h → Lawful h → head_bytes h ≡ take (needed s) s → ⊥) → head_read s ≡ no_head BadField
+      pub lettered_fields : ((h : OpusHead) → InRange h → Lawful h → head_bytes h ≡ take (needed s) s → ⊥) → head_read s ≡ Err BadField
       lettered_fields o =
           by_test (ruled (head_of s)) (λ r. absurd (o (head_of s) (ranged s bytes least) (lawful s right r) read-front)) (λ r. said s right false r)
 
-      pub fields_only : head_read s ≡ no_head BadField → (h : OpusHead) → InRange h → Lawful h → head_bytes h ≡ take (needed s) s → ⊥
+      pub fields_only : head_read s ≡ Err BadField → (h : OpusHead) → InRange h → Lawful h → head_bytes h ≡ take (needed s) s → ⊥
       fields_only r h range l q =
           let is = front_is h q in
           let same : get_or s 8 0 ≡ h.version = ap (λ x. get_or x 8 0) (sym is ∙ bytes_then h (drop (needed s) s)) in

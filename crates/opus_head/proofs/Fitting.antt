@@ -13,8 +13,9 @@ use lib.Seq.{drop-cons}
 use borrow.Author.Tests.{le-leb, lt-leb, eq-eqb, ne_eqb}
 use Rattle.laws.proofs.Never.{cond_elim}
 use Rattle.opus_defines.specs.declared.Refusal.TheVariants.{BadField}
+use Rattle.std.specs.Prelude.{Ok, Err}
 use Rattle.opus_head.specs.declared.OpusHead.{OpusHead}
-use Rattle.opus_head.specs.Reading.{channels_fit, entries_fit, ruled, long_as, a_head, no_head, bytes_needed, fields_fit, one_stream, streams_fit}
+use Rattle.opus_head.specs.Reading.{channels_fit, entries_fit, ruled, long_as, bytes_needed, fields_fit, one_stream, streams_fit}
 use Rattle.opus_head.specs.Parts.{entry_fits, checked}
 
 -- ---- channels
@@ -156,12 +157,12 @@ pub ruled_as : (h : OpusHead) {r b : Bool} → r ≡ fields_fit h.channels h.fam
 ruled_as h e t = ruled_is h ∙ (sym e ∙ t)
 
 pub checked_accepted : (h : OpusHead) {r : Bool} → r ≡ fields_fit h.channels h.family h.streams h.coupled h.mapping → r ≡ true
-    → a_head h ≡ checked h
-checked_accepted h e t = sym (ap (λ b. cond b (a_head h) (no_head BadField)) (ruled_as h e t))
+    → Ok h ≡ checked h
+checked_accepted h e t = sym (ap (λ b. cond b (Ok h) (Err BadField)) (ruled_as h e t))
 
 pub checked_refused : (h : OpusHead) {r : Bool} → r ≡ fields_fit h.channels h.family h.streams h.coupled h.mapping → r ≡ false
-    → no_head BadField ≡ checked h
-checked_refused h e t = sym (ap (λ b. cond b (a_head h) (no_head BadField)) (ruled_as h e t))
+    → Err BadField ≡ checked h
+checked_refused h e t = sym (ap (λ b. cond b (Ok h) (Err BadField)) (ruled_as h e t))
 
 -- ---- lengths
 module _ (family channels : ℕ) where

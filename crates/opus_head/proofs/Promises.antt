@@ -19,14 +19,15 @@ use lib.ListN.{length, take, drop, get_or}
 use lib.Seq.{sets}
 use lib.Signed.{mag}
 use Rattle.laws.specs.Bytes.{Bytes}
-use Rattle.opus_defines.specs.Numbers.{plain, verdict_number}
+use Rattle.opus_defines.specs.Numbers.{plain, refusal_number}
 use Rattle.opus_defines.specs.Outcome.{refuses, writes}
 use Rattle.opus_defines.specs.declared.Refusal.TheVariants.{BufferTooSmall, BadHeader, UnknownVersion, BadField}
 use Rattle.opus_defines.proofs.Outcomes.{refusal-keeps}
+use Rattle.std.specs.Prelude.{Ok, Err}
 use Rattle.opus_head.specs.declared.OpusHead.{OpusHead}
 use Rattle.low_first.specs.Numbers.{low_first, from_low}
 use Rattle.opus_head.specs.Header.{letters, bits16, head_bytes, Lawful}
-use Rattle.opus_head.specs.Reading.{signed16, no_head, a_head, head_read, head_written, head_write, bytes_needed}
+use Rattle.opus_head.specs.Reading.{signed16, head_read, head_written, head_write, bytes_needed}
 use Rattle.opus_head.specs.Heads.{InRange, Writable}
 use Rattle.low_first.proofs.Numbers.{low_back, from_back}
 use Rattle.opus_head.proofs.Gain.{bits_back, signed_back}
@@ -38,29 +39,28 @@ use Rattle.opus_head.proofs.Written.{write_against, against_only, write_short, s
 
 -- ---- 1. What is accepted, exactly: fields that obey the rules, in their bytes. Of version 1 these are all of the bytes, and of another anything may be
 -- behind them.
-pub accepted_is_lawful : (s : List ℕ) → Bytes s → (h : OpusHead) → head_read s ≡ a_head h
+pub accepted_is_lawful : (s : List ℕ) → Bytes s → (h : OpusHead) → head_read s ≡ Ok h
     → Lawful h × ((rest : List ℕ) × (s ≡ head_bytes h ++ rest)) × (h.version ≡ 1 → s ≡ head_bytes h)
 accepted_is_lawful s bytes h a = let w = accepted_was s h a in (was_lawful w, was_spelled w bytes, was_whole w bytes)
 
 pub lawful_is_accepted : (h : OpusHead) → InRange h → Lawful h → (rest : List ℕ) → (h.version ≡ 1 → rest ≡ [])
-    → head_read (head_bytes h ++ rest) ≡ a_head h
+    → head_read (head_bytes h ++ rest) ≡ Ok h
 lawful_is_accepted h range l rest end = accepted h range l rest end
 
-pub read_is_in_range : (s : List ℕ) → Bytes s → (h : OpusHead) → head_read s ≡ a_head h → InRange h
+pub read_is_in_range : (s : List ℕ) → Bytes s → (h : OpusHead) → head_read s ≡ Ok h → InRange h
 read_is_in_range s bytes h a = was_ranged (accepted_was s h a) bytes
 
--- ---- 2. Every reading is accepted or refused by one of three numbers, beside which all fields are 0.
+-- ---- 2. Every reading is accepted or refused by one of three numbers, beside which there are no fields.
 pub reading_answers : (s : List ℕ)
-    → ((h : OpusHead) × (head_read s ≡ a_head h))
-    ⊎ ((head_read s ≡ no_head BadHeader) ⊎ ((head_read s ≡ no_head UnknownVersion) ⊎ (head_read s ≡ no_head BadField)))
+    → ((h : OpusHead) × (head_read s ≡ Ok h))
+    ⊎ ((head_read s ≡ Err BadHeader) ⊎ ((head_read s ≡ Err UnknownVersion) ⊎ (head_read s ≡ Err BadField)))
 reading_answers s = answers s
 
-pub refusal_numbers : (verdict_number (pos 0) (no_head BadHeader).verdict ≡ negsuc 21)
-    × (verdict_number (pos 0) (no_head UnknownVersion).verdict ≡ negsuc 22) × (verdict_number (pos 0) (no_head BadField).verdict ≡ negsuc 23)
+pub refusal_numbers : (refusal_number BadHeader ≡ negsuc 21) × (refusal_number UnknownVersion ≡ negsuc 22) × (refusal_number BadField ≡ negsuc 23)
 refusal_numbers = (refl, refl, refl)
 
 -- ---- 3. By which, in this order. -22 for less than 19 bytes, or other letters;
-pub other_letters : (s : List ℕ) → (length s < 19) ⊎ ((rest : List ℕ) → s ≡ letters ++ rest → ⊥) → head_read s ≡ no_head BadHeader
+pub other_letters : (s : List ℕ) → (length s < 19) ⊎ ((rest : List ℕ) → s ≡ letters ++ rest → ⊥) → head_read s ≡ Err BadHeader
 other_letters s o = not_lettered s o
 
 -- what headers of a family and so many channels need
@@ -69,7 +69,7 @@ so_many_bytes h range = bytes_long h (omega (arith, range.channels, range.entry_
 
 module _ (s rest : List ℕ) (least : 19 ≤ length s) (lettered : s ≡ letters ++ rest) where
   -- then -23 for a version above 15;
-  pub then_version : 15 < get_or s 8 0 → head_read s ≡ no_head UnknownVersion
+  pub then_version : 15 < get_or s 8 0 → head_read s ≡ Err UnknownVersion
   then_version v = lettered_version s rest least lettered v
 
   module _ (version : get_or s 8 0 ≤ 15) where
@@ -78,26 +78,26 @@ module _ (s rest : List ℕ) (least : 19 ≤ length s) (lettered : s ≡ letters
     need = bytes_needed (get_or s 18 0) (get_or s 9 0)
 
     -- then -22 for fewer, and for more of version 1;
-    pub then_length : (length s < need) ⊎ ((get_or s 8 0 ≡ 1) × (need < length s)) → head_read s ≡ no_head BadHeader
+    pub then_length : (length s < need) ⊎ ((get_or s 8 0 ≡ 1) × (need < length s)) → head_read s ≡ Err BadHeader
     then_length o = lettered_length s rest least lettered version o
 
     -- then -24 exactly where its bytes are those of no head that obeys the rules; and else it is accepted.
     module _ (bytes : Bytes s) (long : need ≤ length s) (just : get_or s 8 0 ≡ 1 → length s ≡ need) where
-      pub then_fields_lem : ((h : OpusHead) → InRange h → Lawful h → head_bytes h ≡ take need s → ⊥) → head_read s ≡ no_head BadField
+      pub then_fields_lem : ((h : OpusHead) → InRange h → Lawful h → head_bytes h ≡ take need s → ⊥) → head_read s ≡ Err BadField
       then_fields_lem o = lettered_fields s rest least lettered version bytes long just o
 
-      pub else_accepted : ((h : OpusHead) × (head_read s ≡ a_head h)) ⊎ (head_read s ≡ no_head BadField)
+      pub else_accepted : ((h : OpusHead) × (head_read s ≡ Ok h)) ⊎ (head_read s ≡ Err BadField)
       else_accepted = lettered_answers s rest least lettered version bytes long just
 
-      pub then_fields_only : head_read s ≡ no_head BadField → (h : OpusHead) → InRange h → Lawful h → head_bytes h ≡ take need s → ⊥
+      pub then_fields_only : head_read s ≡ Err BadField → (h : OpusHead) → InRange h → Lawful h → head_bytes h ≡ take need s → ⊥
       then_fields_only r = fields_only s rest least lettered version bytes long just r
 
 -- ---- 4. What was written reads back, and what was read of version 1 is written back.
 pub written_reads_back : (h : OpusHead) → InRange h → (dst : List ℕ) (n : ℕ) → (head_write h dst).report.number ≡ pos n
-    → head_read (take n (head_write h dst).bytes) ≡ a_head h
+    → head_read (take n (head_write h dst).bytes) ≡ Ok h
 written_reads_back h range dst n e = done_reads h dst n (done_was h dst n e) range
 
-pub read-writes_back : (s : List ℕ) → Bytes s → (h : OpusHead) → head_read s ≡ a_head h → h.version ≡ 1
+pub read-writes_back : (s : List ℕ) → Bytes s → (h : OpusHead) → head_read s ≡ Ok h → h.version ≡ 1
     → (dst : List ℕ) → length s ≤ length dst → head_write h dst ≡ record { report = plain (pos (length s)); bytes = sets dst 0 s }
 read-writes_back s bytes h a v dst room = read_again s bytes h (accepted_was s h a) v dst room
 

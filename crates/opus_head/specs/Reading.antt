@@ -4,11 +4,10 @@ use Rattle.std.specs.Prelude.{take, drop, get_or, replicate}
 use Rattle.opus_defines.specs.Outcome.{Effect, refusal, into_room, Outcome, leaves}
 use Rattle.opus_defines.specs.declared.Refusal.{Refusal}
 use Rattle.opus_defines.specs.declared.Refusal.TheVariants.{BadHeader, UnknownVersion, BadField}
-use Rattle.std.specs.Prelude.{Err, Ok}
+use Rattle.std.specs.Prelude.{Result, Err, Ok}
 use Rattle.low_first.specs.Numbers.{number_at}
 use Rattle.opus_head.specs.Header.{letters, head_bytes}
 use Rattle.opus_head.specs.declared.OpusHead.{OpusHead}
-use Rattle.opus_head.specs.declared.HeadRead.{HeadRead}
 
 -- ---- the rules on fields but the version, as a test
 -- none has 0 channels
@@ -86,35 +85,29 @@ begins [] s = true
 begins (c ∷ cs) [] = false
 begins (c ∷ cs) (b ∷ s) = eqb b c && begins cs s
 
--- a refusal, and zeros
-abbrev pub no_head : Refusal → HeadRead
-no_head e =
+-- all zeros: what C sees beside a refusal
+abbrev pub zero_head : OpusHead
+zero_head =
     record {
-      verdict = Err e;
-      head = record {
-        version = 0;
-        channels = 0;
-        pre_skip = 0;
-        rate = 0;
-        gain = pos 0;
-        family = 0;
-        streams = 0;
-        coupled = 0;
-        mapping = replicate 255 0;
-      };
+      version = 0;
+      channels = 0;
+      pre_skip = 0;
+      rate = 0;
+      gain = pos 0;
+      family = 0;
+      streams = 0;
+      coupled = 0;
+      mapping = replicate 255 0;
     }
 
-abbrev pub a_head : OpusHead → HeadRead
-a_head h = record { verdict = Ok tt; head = h }
-
 -- `head_read`
-unfoldable pub head_read : List ℕ → HeadRead
+unfoldable pub head_read : List ℕ → Result OpusHead Refusal
 head_read s =
-    cond (ltb (length s) 19) (no_head BadHeader)
-    (cond (not (begins letters s)) (no_head BadHeader)
-    (cond (ltb 15 (get_or s 8 0)) (no_head UnknownVersion)
-    (cond (not (long_as (get_or s 8 0) (length s) (needed s))) (no_head BadHeader)
-    (cond (ruled (head_of s)) (a_head (head_of s)) (no_head BadField)))))
+    cond (ltb (length s) 19) (Err BadHeader)
+    (cond (not (begins letters s)) (Err BadHeader)
+    (cond (ltb 15 (get_or s 8 0)) (Err UnknownVersion)
+    (cond (not (long_as (get_or s 8 0) (length s) (needed s))) (Err BadHeader)
+    (cond (ruled (head_of s)) (Ok (head_of s)) (Err BadField)))))
 
 -- ---- `head_write`: version 1 only
 unfoldable pub head_written : OpusHead → ℕ → Effect

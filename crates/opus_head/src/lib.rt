@@ -6,7 +6,7 @@ ghost use Rattle.std.proofs.lemmas.List.Edits.{sets};
 ghost use Rattle.opus_defines.specs.Numbers.{report_of};
 ghost use Rattle.opus_head.specs.Header.{letters, bits16, fixed_bytes, head_bytes};
 ghost use Rattle.opus_head.specs.Reading.{channels_fit, entries_fit, streams_fit, one_stream, fields_fit, begins, bytes_needed, needed, long_as};
-ghost use Rattle.opus_head.specs.Reading.{signed16, entries, head_with, plain_head, head_of, no_head, head_read, head_write};
+ghost use Rattle.opus_head.specs.Reading.{signed16, entries, head_with, plain_head, zero_head, head_of, head_read, head_write};
 ghost use Rattle.opus_head.specs.Parts.{entry_fits, checked, fields_of};
 
 use opus_defines::{Refusal, wide_byte};
@@ -31,13 +31,6 @@ pub struct OpusHead {
     pub coupled: u8,
     // An entry for each channel, then zeros.
     pub mapping: [u8; 255],
-}
-
-// What `head_read` answers; all zeros beside a refusal.
-#[derive(Clone, Copy)]
-pub struct HeadRead {
-    pub verdict: Result<(), Refusal>,
-    pub head: OpusHead,
 }
 
 // ---- the rules
@@ -244,28 +237,25 @@ fn head_of(data: &[u8]) -> OpusHead
     head_mapped(data, data[19], data[20], mapping)
 }
 
-// A refusal, and zeros.
-fn no_head(e: Refusal) -> HeadRead
-    ensures { result ≡ no_head e }
+// All zeros: what C sees beside a refusal.
+pub fn zero_head() -> OpusHead
+    ensures { result ≡ zero_head }
 {
-    HeadRead {
-        verdict: Err(e),
-        head: OpusHead {
-            version: 0,
-            channels: 0,
-            pre_skip: 0,
-            rate: 0,
-            gain: 0,
-            family: 0,
-            streams: 0,
-            coupled: 0,
-            mapping: [0u8; 255],
-        },
+    OpusHead {
+        version: 0,
+        channels: 0,
+        pre_skip: 0,
+        rate: 0,
+        gain: 0,
+        family: 0,
+        streams: 0,
+        coupled: 0,
+        mapping: [0u8; 255],
     }
 }
 
 // The fields where they obey the rules.
-fn checked_head(head: OpusHead) -> HeadRead
+fn checked_head(head: OpusHead) -> Result<OpusHead, Refusal>
     ensures { result ≡ checked head }
 {
     let mapping = head.mapping;
@@ -276,12 +266,9 @@ fn checked_head(head: OpusHead) -> HeadRead
         head.coupled,
         &mapping,
     ) {
-        return HeadRead {
-            verdict: Ok(()),
-            head,
-        };
+        return Ok(head);
     }
-    no_head(Refusal::BadField)
+    Err(Refusal::BadField)
 }
 
 // Version 1 has just the bytes that it needs, the others may have more.
@@ -296,21 +283,21 @@ fn long_as(version: u8, n: usize, need: usize) -> bool
 
 // Reads the header at the front of `data`. Refusals, in order: -22 under 19 bytes or other letters, -23 for a version above 15, -22 for another length than the
 // fields need (versions other than 1 may be longer), -24 for a field against the rules.
-pub fn head_read(data: &[u8]) -> HeadRead
+pub fn head_read(data: &[u8]) -> Result<OpusHead, Refusal>
     ensures { result ≡ head_read «data».now }
 {
     if data.len() < LEAST_HEAD {
-        return no_head(Refusal::BadHeader);
+        return Err(Refusal::BadHeader);
     }
     if !has_letters(data) {
-        return no_head(Refusal::BadHeader);
+        return Err(Refusal::BadHeader);
     }
     if 15 < data[8] {
-        return no_head(Refusal::UnknownVersion);
+        return Err(Refusal::UnknownVersion);
     }
     let need = bytes_needed(data[18], data[9]);
     if !long_as(data[8], data.len(), need) {
-        return no_head(Refusal::BadHeader);
+        return Err(Refusal::BadHeader);
     }
     checked_head(head_of(data))
 }

@@ -25,7 +25,7 @@ pub struct Sums {
 }
 
 // The form of a packet: codes 0 to 2, or code 3 with so many missing bytes.
-#[derive(Clone, Copy)]
+#[derive(Clone, Copy, Debug, PartialEq, Eq)]
 pub enum Form {
     Short,
     Full(usize),

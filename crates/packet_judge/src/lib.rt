@@ -12,7 +12,7 @@ use opus::Short;
 use opus_defines::{Refusal, Rule, wide};
 
 // What a packet is judged to be.
-#[derive(Clone, Copy)]
+#[derive(Clone, Copy, Debug, PartialEq, Eq)]
 pub enum Judged {
     // It is too long to be looked at.
     Refused(Refusal),

@@ -3,7 +3,7 @@ ghost use Rattle.std.specs.Prelude.{◌≡◌};
 ghost use Rattle.packet_pad.specs.Lengths.{length_of, lengths_of};
 
 // What the packet's length and the new one ask for: a refusal, nothing, or a packet of the first length padded to the second.
-#[derive(Clone, Copy)]
+#[derive(Clone, Copy, Debug, PartialEq, Eq)]
 pub enum Lengths {
     Bad,
     Same,

@@ -334,14 +334,13 @@ pub fn add(
         ≡ (added_by strict self_delimited (collector_of h len.old packet.old) «data».now store.old).store }
     ensures few { result.count < 65536 }
 {
-    let c = collector::check_words(h, len, packet);
-    if !c.sound {
+    let Some(total) = collector::check_words(h, len, packet) else {
         return refused_add(Refusal::InvalidState, h);
-    }
+    };
     if store.len() < collector::LEAST_STORE {
         return refused_add(Refusal::BadArg, h);
     }
-    add_packet(h, len, packet, c.total, data, self_delimited, strict, store)
+    add_packet(h, len, packet, total, data, self_delimited, strict, store)
 }
 
 // Adds a packet in the named delimiting, strictly or not, to the collector, whose frames stand in the store.

@@ -141,10 +141,10 @@ fn out_answer(
         ≡ (out_range self_delimited pad (collector_of h len.now packet.now)
         store.now begin end «data».old).bytes }
 {
-    let c = collector::check(h, len, packet);
-    if !c.sound {
+    let sound = collector::check(h, len, packet);
+    let Some(_) = sound else {
         return Err(Refusal::InvalidState);
-    }
+    };
     if store.len() < collector::LEAST_STORE {
         return Err(Refusal::BadArg);
     }

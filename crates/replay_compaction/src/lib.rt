@@ -2,18 +2,29 @@
 #![tactic(auto)]
 
 use compaction::Share;
-use opus_defines::{OPUS_OK, verdict_number};
+use opus_defines::Refusal;
 use replay_io::output::Output;
 use replay_io::{Malformed, Replay, room};
 use std::io::Read;
 
-fn put_share(out: &mut Output, s: Share) {
-    out.number(verdict_number(OPUS_OK, s.verdict));
-    out.field(s.resume);
-    out.field(s.records);
-    out.field(s.written);
-    out.field(s.reclaimed);
-    out.field(s.passed);
+// Zeros stand beside a refusal.
+fn put_share(out: &mut Output, s: Result<Share, Refusal>) {
+    match s {
+        Ok(done) => {
+            out.put(b'0');
+            out.field(done.resume);
+            out.field(done.records);
+            out.field(done.written);
+            out.field(done.reclaimed);
+            out.field(done.passed);
+        }
+        Err(e) => {
+            out.refusal(e);
+            for _ in 0..5 {
+                out.field(0);
+            }
+        }
+    }
 }
 
 // Kind 25.

@@ -1,8 +1,7 @@
 // Kinds 27 and 28 of the replay protocol: an identification header read, and written.
 #![tactic(auto)]
 
-use opus_defines::{OPUS_OK, verdict_number};
-use opus_head::OpusHead;
+use opus_head::{OpusHead, zero_head};
 use replay_io::input::Input;
 use replay_io::output::Output;
 use replay_io::{Malformed, Replay, room};
@@ -27,9 +26,16 @@ fn put_head(out: &mut Output, head: &OpusHead) {
 
 pub fn read<R: Read + Drop>(case: &mut Replay<R>) -> Result<(), Malformed> {
     let bytes = case.input.bytes(&mut case.work)?;
-    let r = opus_head::head_read(bytes);
-    case.out.number(verdict_number(OPUS_OK, r.verdict));
-    put_head(&mut case.out, &r.head);
+    match opus_head::head_read(bytes) {
+        Ok(head) => {
+            case.out.number(0);
+            put_head(&mut case.out, &head);
+        }
+        Err(e) => {
+            case.out.refusal(e);
+            put_head(&mut case.out, &zero_head());
+        }
+    }
     Ok(())
 }
 

@@ -1,9 +1,8 @@
 -- A number's digits: `decimal` has the fewest, as io's `decimal` promises, and a number below 10 ^ m has at most m.
---     decimal_is                     what io's `decimal` writes
---     decimal_room, decimal_laid     the same, put as text
---     decimal_most                   how long it is
+--     decimal_is       what io's `decimal` writes
+--     decimal_most     how long it is
 -- Assumes nothing.
-use Prim.Native.Nat.{ℕ, zero, suc, ◌+◌, ◌*◌, ◌-◌, ◌/◌, ◌%◌, ◌^◌, ◌≤◌, ◌<◌}
+use Prim.Native.Nat.{ℕ, zero, suc, ◌*◌, ◌-◌, ◌/◌, ◌%◌, ◌^◌, ◌≤◌, ◌<◌}
 use native.Mathlib.Nat.{pow-suc, one-le-pow}
 use native.Mathlib.Numerals.{unary_clauses}
 use native.Mathlib.Omega.{arith}
@@ -15,7 +14,6 @@ use borrow.Author.Tests.{ltb-true, ltb-false}
 use Rattle.laws.proofs.Never.{by_test}
 use Rattle.io.specs.Digits.{hex_digit_ascii, last_digits, IsDigitCount}
 use Rattle.show.specs.Text.{places, decimal}
-use Rattle.show.proofs.Laid.{Laid}
 
 digits_length : (b k n : ℕ) → length (last_digits b k n) ≡ k
 digits_length b zero n = refl
@@ -56,12 +54,6 @@ module _ (t : List ℕ) (k n : ℕ) (f : IsDigitCount 10 1 n k) (e : take k t �
   pub decimal_is : take k t ≡ decimal n
   unfolding decimal
   decimal_is = rw (places_are n n k (omega arith) f) e
-
-  pub decimal_room : (l : List ℕ) (at : ℕ) → at + length (decimal n) ≤ length l → at + length (take k t) ≤ length l
-  decimal_room l at h = rw decimal_is h
-
-  pub decimal_laid : {l : List ℕ} {at : ℕ} {d : List ℕ} {next : ℕ} → Laid l at (take k t) d next → Laid l at (decimal n) d next
-  decimal_laid g = rw decimal_is at g
 
 more_places : (n m rest : ℕ) → 10 ≤ n → n < 10 ^ suc m → ((i : ℕ) → n / 10 < 10 ^ suc i → rest ≤ suc i) → suc rest ≤ suc m
 more_places n zero rest h k g = absurd (omega arith)

@@ -1,5 +1,7 @@
 // A text under construction.
 ghost use Rattle.std.specs.Prelude.{◌≡◌, ◌++◌, ◌+◌, ◌≤◌, [], List, ℕ, length, take};
+ghost use Rattle.std.proofs.lemmas.List.Edits.{sets};
+ghost use Rattle.io.specs.Counts.{IsPrefixLen};
 ghost use Rattle.show.specs.Text.{decimal, integer, number_line, refusal};
 
 use std::marker::Model;
@@ -46,6 +48,27 @@ impl<const N: usize> TextBuf<N> {
         ensures { result.now ≡ self.now }
     {
         &self.bytes[..self.len]
+    }
+
+    // Copies the text into `out` at a place, and answers the place behind it.
+    pub fn copy_at(&self, out: &mut [u8], at: usize) -> usize
+        requires { at + length self.now ≤ length out.old }
+        ensures bytes { out.new ≡ sets out.old at self.now }
+        ensures next { result ≡ at + length self.now }
+    {
+        let s = self.as_bytes();
+        blocks::copy_into(out, at, s, 0, s.len());
+        at + s.len()
+    }
+
+    // Copies the text to the front of `out`, and answers its bytes.
+    pub fn copy_to(&self, out: &mut [u8]) -> usize
+        requires { length self.now ≤ length out.old }
+        ensures bytes { out.new ≡ sets out.old 0 self.now }
+        ensures next { result ≡ length self.now }
+        ensures within { IsPrefixLen result out.new }
+    {
+        self.copy_at(out, 0)
     }
 
     pub fn put(&mut self, s: &[u8])

@@ -3,6 +3,7 @@
 #![tactic(auto)]
 
 ghost use Rattle.std.specs.Prelude.{◌≡◌, ◌++◌, ◌+◌, ◌<◌, ◌≤◌, length};
+ghost use Rattle.std.proofs.lemmas.List.Edits.{sets};
 ghost use Rattle.io.specs.Counts.{IsPrefixLen};
 ghost use Rattle.stdio.specs.Reading.{GotIn, held_after};
 ghost use Rattle.stdio.specs.Failures.{read_failed};
@@ -45,7 +46,7 @@ pub fn read_more<R: Read>(from: &mut R, buf: &mut [u8], held: usize) -> Result<u
 
 // The line on standard error for a read that failed when n bytes had come.
 #[tactic(auto, unfolding(crate::specs::Failures::read_failed, crate::specs::Failures::read_label, crate::specs::Failures::bytes_label))]
-pub fn put_read_failed<const N: usize>(text: &mut TextBuf<N>, n: usize)
+fn build_read_failed<const N: usize>(text: &mut TextBuf<N>, n: usize)
     requires { length text.old + length (read_failed n) ≤ N }
     ensures { text.new ≡ text.old ++ read_failed n }
 {
@@ -55,9 +56,20 @@ pub fn put_read_failed<const N: usize>(text: &mut TextBuf<N>, n: usize)
 }
 
 #[tactic(auto, using(crate::proofs::Line::line_most))]
+pub fn put_read_failed(out: &mut [u8; 73], n: usize) -> usize
+    ensures bytes { out.new ≡ sets out.old 0 (read_failed n) }
+    ensures next { result ≡ length (read_failed n) }
+    ensures within { IsPrefixLen result out.new }
+{
+    let mut text: TextBuf<73> = TextBuf::new();
+    build_read_failed(&mut text, n);
+    text.copy_to(out)
+}
+
+#[tactic(auto, using(crate::proofs::Line::line_most))]
 pub fn tell_read_failed(n: usize) {
     let mut text: TextBuf<73> = TextBuf::new();
-    put_read_failed(&mut text, n);
+    build_read_failed(&mut text, n);
     io::write_all(STDERR_FILENO, text.as_bytes());
 }
 

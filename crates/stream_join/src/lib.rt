@@ -64,7 +64,7 @@ pub struct Tally {
 }
 
 // The bytes needed, or why there are none.
-#[derive(Clone, Copy)]
+#[derive(Clone, Copy, Debug, PartialEq, Eq)]
 pub enum Survey {
     Needs(usize),
     Unequal,

@@ -17,7 +17,8 @@ returns-then-out-lt-LINE_MOST c =
 pub returns : goal.returns
 returns c =
     let x = c.refusal_number in
-    let p = c.put_refused-bytes in
+    let p = c.copy_to-bytes in
     let k =
-    ends_refused c.args.«data».now c.args.start c.args.out.now (omega arith) x.result x.ensures (omega arith) p.ensures.bytes p.ensures.next in
+    ends_refused c.args.«data».now c.args.start c.args.out.now (omega arith) x.result x.ensures (omega arith)
+    (rw (c.put_refused.ensures, c.new-line.ensures) at p.ensures.bytes) (rw (c.put_refused.ensures, c.new-line.ensures) at p.ensures.next) in
     record { bytes = k.0; count = k.1.0; next = k.1.1.0; within = k.1.1.1 }

@@ -1,5 +1,5 @@
 use Rattle.std.proofs.Common.{arith}
-use Rattle.captures_text.proofs.Filled.{turn_inside, turn_less, turn_room, filled_more, ends_none, ends_full}
+use Rattle.captures_text.proofs.Filled.{turn_inside, turn_less, turn_most, turn_room, filled_more, ends_none, ends_full}
 use Rattle.captures_text.proofs.record_lines.Goals as goal
 
 pub returns-then-r-eq0 : goal.returns-then-r-eq0
@@ -21,7 +21,10 @@ overflow_add-at-in-loop-out c =
 pub put_line-n-requires : goal.put_line-n-requires
 put_line-n-requires c =
     let r = c.next_record-r in
-    turn_room c.loop-out.invariant r.result r.ensures c.if-r-eq0.false c.requires (omega arith) (omega arith)
+    record {
+      most = turn_most c.loop-out.invariant r.result r.ensures c.if-r-eq0.false c.requires (omega arith) (omega arith);
+      room = turn_room c.loop-out.invariant r.result r.ensures c.if-r-eq0.false c.requires (omega arith) (omega arith);
+    }
 
 pub loop-out-smaller : goal.loop-out-smaller
 loop-out-smaller c =

@@ -19,7 +19,7 @@ tell-t-requires c =
 pub returns-then-t-eq-NOT_SOUND : goal.returns-then-t-eq-NOT_SOUND
 returns-then-t-eq-NOT_SOUND c =
     (left (goal.at.returns-then-t-eq-NOT_SOUND c).In-Held).all
-    (c.unsound.ensures ∙ told_unsound _ (few (goal.at.returns-then-t-eq-NOT_SOUND c).In-Held) c.args.len.now c.args.packet.now c.tell-t.result
+    (told_unsound _ (few (goal.at.returns-then-t-eq-NOT_SOUND c).In-Held) c.args.len.now c.args.packet.now c.tell-t.result
     c.tell-t.ensures c.if-t-eq-NOT_SOUND.true)
 
 pub returns-in-Known : goal.returns-in-Known

@@ -10,7 +10,7 @@ returns-then-n-eq0 c =
 pub returns-then-not-head_fits : goal.returns-then-not-head_fits
 returns-then-not-head_fits c =
     front_unfit c.args.h c.wide-n.result c.wide-n.ensures.0 c.if-n-eq0.false
-    (sym c.head_fits.ensures ∙ c.if-not-head_fits.true) c.unsound.ensures
+    (sym c.head_fits.ensures ∙ c.if-not-head_fits.true)
 
 pub returns : goal.returns
 returns c =

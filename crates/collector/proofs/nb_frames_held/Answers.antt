@@ -1,24 +1,13 @@
 -- `collector::nb_frames_held` meets its contract.
-use Rattle.std.proofs.Common.{◌≡◌, sym, ◌∙◌}
-use borrow.Author.Tests.{not-true, not-false}
-use Rattle.collector.specs.declared.OpusRepacketizer.{OpusRepacketizer}
-use Rattle.collector.specs.Collector.{sound}
 use Rattle.collector.specs.Parts.{collector_of}
-use Rattle.collector.proofs.Checks.{checked-sound}
+use Rattle.collector.proofs.Checks.{some_sound, none_unsound}
 use Rattle.collector.proofs.Sound.{unsound_number, sound_number}
 use Rattle.collector.proofs.nb_frames_held.Goals as goal
-use Rattle.collector.proofs.nb_frames_held.Goals.{After-check-c}
 
-abbrev taken : After-check-c → OpusRepacketizer
-taken c = let a = c.args in collector_of a.h a.len.now a.packet.now
-
-found : (c : After-check-c) → c.check-c.result.sound ≡ sound (taken c)
-found c = checked-sound (taken c) c.check-c.result c.check-c.ensures
-
-pub returns-then-not-c : goal.returns-then-not-c
-returns-then-not-c c =
-    unsound_number (taken (goal.at.returns-then-not-c c).After-check-c) (sym (found (goal.at.returns-then-not-c c).After-check-c) ∙ not-true _ c.if-not-c.true)
+pub returns-in_default : goal.returns-in_default
+returns-in_default c =
+    unsound_number _ (none_unsound (collector_of c.args.h c.args.len.now c.args.packet.now) _ c.check.ensures c.in_default.is)
 
 pub returns : goal.returns
 returns c =
-    sound_number (taken (goal.at.returns c).After-check-c) (sym (found (goal.at.returns c).After-check-c) ∙ not-false _ c.if-not-c.false)
+    sound_number _ (some_sound (collector_of c.args.h c.args.len.now c.args.packet.now) _ c.check.ensures c.in-Some.is).0

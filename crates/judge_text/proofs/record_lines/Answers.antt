@@ -1,7 +1,7 @@
 -- `judge_text::record_lines` meets its contract. The invariant of its loop: the lines of the records before `at` are put. The measure is the bytes left.
 use native.Mathlib.Omega.{arith}
 use Rattle.laws.specs.Bytes.{Bytes}
-use Rattle.judge_text.proofs.Filled.{filled_start, filled-length, turn_inside, turn_less, turn_judged, turn_room, turn_few, filled_more}
+use Rattle.judge_text.proofs.Filled.{filled_start, filled-length, turn_inside, turn_less, turn_judged, turn_line, turn_room, turn_few, filled_more}
 use Rattle.judge_text.proofs.Filled.{ends_none, ends_full}
 use Rattle.judge_text.proofs.record_lines.Goals as goal
 
@@ -38,6 +38,8 @@ pub put_verdict-n-requires : goal.put_verdict-n-requires
 put_verdict-n-requires c =
     let bytes : Bytes c.args.«data».now = record { byte = λ k. (c.type_inv.«data» k).fits } in record {
       judged = turn_judged c.loop-out.invariant c.next_record-r.result c.next_record-r.ensures c.if-r-eq0.false c.requires.0 bytes (omega arith)
+          c.judge_at-j.result c.judge_at-j.ensures;
+      most = turn_line c.loop-out.invariant c.next_record-r.result c.next_record-r.ensures c.if-r-eq0.false c.requires.0 bytes (omega arith)
           c.judge_at-j.result c.judge_at-j.ensures;
       room = turn_room c.loop-out.invariant c.next_record-r.result c.next_record-r.ensures c.if-r-eq0.false c.requires.0 bytes (omega arith)
           c.judge_at-j.result c.judge_at-j.ensures;

@@ -9,4 +9,4 @@ returns-then-fields_fit c =
 
 pub returns : goal.returns
 returns c =
-    c.no_head.ensures ∙ checked_refused c.args.head c.fields_fit.ensures c.if-fields_fit.false
+    checked_refused c.args.head c.fields_fit.ensures c.if-fields_fit.false

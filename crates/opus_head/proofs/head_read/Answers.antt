@@ -16,22 +16,20 @@ lettered e = sym e.has_letters.ensures ∙ e.if-not-has_letters.false
 
 pub returns-then-data-lt-LEAST_HEAD : goal.returns-then-data-lt-LEAST_HEAD
 returns-then-data-lt-LEAST_HEAD c =
-    c.no_head.ensures ∙ sym (read_short c.args.«data».now c.if-data-lt-LEAST_HEAD.true)
+    sym (read_short c.args.«data».now c.if-data-lt-LEAST_HEAD.true)
 
 pub returns-then-not-has_letters : goal.returns-then-not-has_letters
 returns-then-not-has_letters c =
-    c.no_head-then-not-has_letters.ensures
-    ∙ sym (read_letters c.args.«data».now c.if-data-lt-LEAST_HEAD.false (sym c.has_letters.ensures ∙ c.if-not-has_letters.true))
+    sym (read_letters c.args.«data».now c.if-data-lt-LEAST_HEAD.false (sym c.has_letters.ensures ∙ c.if-not-has_letters.true))
 
 pub returns-then-data-gt15 : goal.returns-then-data-gt15
 returns-then-data-gt15 c =
-    c.no_head-then-data-gt15.ensures ∙ sym (read-version c.args.«data».now c.if-data-lt-LEAST_HEAD.false
+    sym (read-version c.args.«data».now c.if-data-lt-LEAST_HEAD.false
     (lettered (goal.at.returns-then-data-gt15 c).Else-not-has_letters) c.if-data-gt15.true)
 
 pub returns-then-not-long_as : goal.returns-then-not-long_as
 returns-then-not-long_as c =
-    c.no_head-then-not-long_as.ensures
-    ∙ sym (read_length c.args.«data».now c.if-data-lt-LEAST_HEAD.false (lettered (goal.at.returns-then-not-long_as c).Else-not-has_letters) c.if-data-gt15.false
+    sym (read_length c.args.«data».now c.if-data-lt-LEAST_HEAD.false (lettered (goal.at.returns-then-not-long_as c).Else-not-has_letters) c.if-data-gt15.false
     (long_said (get_or c.args.«data».now 8 0) (length c.args.«data».now) c.bytes_needed-need.ensures.is c.long_as.ensures ∙ c.if-not-long_as.true))
 
 pub head_of-requires : goal.head_of-requires

@@ -3,40 +3,33 @@ use mathlib.Core.Path.{◌≡◌, sym, ◌∙◌}
 use mathlib.Core.Bool.{true}
 use lib.ListN.{length}
 use borrow.Author.Rules.{rules}
-use borrow.Author.Tests.{not-true, not-false}
 use Rattle.collector.specs.declared.OpusRepacketizer.{OpusRepacketizer}
 use Rattle.collector.specs.Collector.{sound}
 use Rattle.collector.specs.Parts.{collector_of}
-use Rattle.collector.proofs.Checks.{checked-sound, checked-total}
+use Rattle.collector.proofs.Checks.{some_sound, none_unsound}
 use Rattle.repacketizer.proofs.Adds.{refused_as}
 use Rattle.repacketizer.proofs.StrictAdds.{by_unsound, by_tight, by_sound}
 use Rattle.repacketizer.proofs.add.Goals as goal
-use Rattle.repacketizer.proofs.add.Goals.{After-check_words-c, Else-not-c}
+use Rattle.repacketizer.proofs.add.Goals.{After-check_words, In-Some}
 
 -- the collector of which the code has the head, the lengths and the numbers
-abbrev taken : After-check_words-c → OpusRepacketizer
+abbrev taken : After-check_words → OpusRepacketizer
 taken c = collector_of c.args.h c.args.len.now c.args.packet.now
 
--- what was found of it
-found : (c : After-check_words-c) → c.check_words-c.result.sound ≡ sound (taken c)
-found c = checked-sound (taken c) c.check_words-c.result c.check_words-c.ensures
-
 -- the collector is sound
-is : (c : Else-not-c) → sound (collector_of c.args.h c.args.len.now c.args.packet.now) ≡ true
-is c =
-    let rp = collector_of c.args.h c.args.len.now c.args.packet.now in
-    sym (checked-sound rp c.check_words-c.result c.check_words-c.ensures) ∙ not-false _ c.if-not-c.false
+is : (c : In-Some) → sound (collector_of c.args.h c.args.len.now c.args.packet.now) ≡ true
+is c = (some_sound _ _ c.check_words.ensures c.in-Some.is).0
 
-pub returns-then-not-c : goal.returns-then-not-c
-returns-then-not-c c =
-    let unsound = sym (found (goal.at.returns-then-not-c c).After-check_words-c) ∙ not-true _ c.if-not-c.true in
-    let whole = refused_as (by_unsound c.args.strict c.args.self_delimited (taken (goal.at.returns-then-not-c c).After-check_words-c)
+pub returns-in_default : goal.returns-in_default
+returns-in_default c =
+    let unsound = none_unsound _ _ c.check_words.ensures c.in_default.is in
+    let whole = refused_as (by_unsound c.args.strict c.args.self_delimited (taken (goal.at.returns-in_default c).After-check_words)
     c.args.«data».now c.args.store.now unsound) c.refused_add.ensures in record { answer = whole.0; bytes = whole.1.0; few = whole.1.1 }
 
 pub returns-then-store-lt-LEAST_STORE : goal.returns-then-store-lt-LEAST_STORE
 returns-then-store-lt-LEAST_STORE c =
-    let whole = refused_as (by_tight c.args.strict c.args.self_delimited (taken (goal.at.returns-then-store-lt-LEAST_STORE c).After-check_words-c)
-    c.args.«data».now c.args.store.now (is (goal.at.returns-then-store-lt-LEAST_STORE c).Else-not-c) c.if-store-lt-LEAST_STORE.true)
+    let whole = refused_as (by_tight c.args.strict c.args.self_delimited (taken (goal.at.returns-then-store-lt-LEAST_STORE c).After-check_words)
+    c.args.«data».now c.args.store.now (is (goal.at.returns-then-store-lt-LEAST_STORE c).In-Some) c.if-store-lt-LEAST_STORE.true)
     c.refused_add-then-store-lt-LEAST_STORE.ensures in record { answer = whole.0; bytes = whole.1.0; few = whole.1.1 }
 
 pub add_packet-requires : goal.add_packet-requires
@@ -46,15 +39,14 @@ add_packet-requires c =
     record {
       lengths48 = l;
       numbers48 = p;
-      soundly = is (goal.at.add_packet-requires c).Else-not-c;
-      place = checked-total (taken (goal.at.add_packet-requires c).After-check_words-c) c.check_words-c.result c.check_words-c.ensures
-          (is (goal.at.add_packet-requires c).Else-not-c);
+      soundly = is (goal.at.add_packet-requires c).In-Some;
+      place = (some_sound _ _ c.check_words.ensures c.in-Some.is).1;
       roomy = c.if-store-lt-LEAST_STORE.false;
     }
 
 pub returns : goal.returns
 returns c =
     let e =
-    by_sound c.args.strict c.args.self_delimited (taken (goal.at.returns c).After-check_words-c) c.args.«data».now c.args.store.now
-    (is (goal.at.returns c).Else-not-c) c.if-store-lt-LEAST_STORE.false in
+    by_sound c.args.strict c.args.self_delimited (taken (goal.at.returns c).After-check_words) c.args.«data».now c.args.store.now
+    (is (goal.at.returns c).In-Some) c.if-store-lt-LEAST_STORE.false in
     record { answer = rw e c.add_packet.ensures.0; bytes = rw e c.add_packet.ensures.1.0; few = c.add_packet.ensures.1.1 }
