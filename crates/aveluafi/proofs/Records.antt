@@ -3,12 +3,12 @@
 --     size_passed, rate_passed     a call is passed the bits of a signed number
 --     size_reported, ..            a report in a record
 --     size_number_lem, packet_number_lem   the number of a record is the one of the core's answer
---     read_few, record_read, ..    a packet that was read, by its verdict
+--     record_read, record_unread   a packet that was read, by its answer
 --     one_record, two_record       a packet of one frame or two that was read without an array
 --     same_record                  one of frames that are equally long
 --     long_record, broken_record   a packet that is too long, or breaks a rule
 --     record_found                 a record of a capture
---     head_made                    an identification header
+--     head_made, head_refused      an identification header
 -- Assumes nothing.
 use Prim.Native.Nat.{ℕ, ◌-◌, ◌≤◌, ◌<◌}
 use native.Mathlib.Omega.{arith}
@@ -31,7 +31,6 @@ use Rattle.opus_defines.specs.declared.Report.{Report}
 use Rattle.opus_defines.specs.declared.Rule.{Rule}
 use Rattle.opus_defines.specs.declared.Rule.TheVariants.{R4, R7, R8}
 use Rattle.std.specs.Prelude.{Err, Ok, Result, IfOk}
-use lib.Seq.{length-take-le}
 use Rattle.opus_size.specs.Size.{Field, no_field, field, length_field, read_field}
 use Rattle.opus_size.specs.Answers.{encode_size, size_of, size_number, size_told, parse_size}
 use Rattle.opus_size.specs.declared.Size.{Size}
@@ -44,8 +43,6 @@ use Rattle.opus.specs.declared.Packet.{Packet}
 use Rattle.opus.specs.declared.PacketHead.{PacketHead}
 use Rattle.opus.proofs.AtPacket.{parse_long, parse_read}
 use Rattle.opus.proofs.AtEqual.{EqualRead}
-use Rattle.opus.proofs.Parsed.{lengths_of, parsed_accepted}
-use Rattle.opus_format.proofs.Facts.{facts}
 use Rattle.capture.specs.declared.NextRecord.{NextRecord}
 use Rattle.opus_head.specs.declared.OpusHead.{OpusHead}
 use Rattle.opus_head.specs.Reading.{zero_head}
@@ -53,13 +50,6 @@ use Rattle.aveluafi.specs.Records.{size_record, packet_record, whole_record, cap
 
 -- ---- a packet that was read, with its lengths in the array l
 module _ (sd : Bool) (p : List ℕ) (h : PacketHead) (l : List ℕ) (e : Ok (packet_with h l) ≡ parsed sd p) where
-  -- at most 48 frames
-  pub read_few : Bytes p → h.count ≤ 48
-  read_few bytes =
-      let d = parsed_accepted sd p (packet_with h l) e in
-      let f = facts sd p h.toc (lengths_of (packet_with h l)) h.first h.taken bytes d.means in
-      omega (arith, f.few, length-take-le h.count l d.inside)
-
   pub record_read : whole_record h l ≡ packet_record (parsed sd p)
   record_read = ap packet_record e
 

@@ -99,11 +99,10 @@ fn no_packet(e: Refusal) -> AveluafiPacket
 
 // A packet whose lengths are these.
 fn whole_packet(p: PacketHead, lengths: [u16; 48]) -> AveluafiPacket
-    requires { p.count < 65536 }
     ensures { result ≡ whole_record p lengths }
 {
     AveluafiPacket {
-        report: opus_defines::report_of(Ok(p.count as u16)),
+        report: opus_defines::report_of(Ok(p.count)),
         lengths,
         toc: p.toc,
         payload_offset: p.first,

@@ -175,7 +175,7 @@ fn repack_stream(
     let mut lengths = [0u16; 48];
     let p = opus::read_into(&data[from..len], self_delimited, &mut lengths).unwrap();
     let first = from - to + p.first;
-    let ns = &lengths[..p.count];
+    let ns = &lengths[..p.count as usize];
     let bytes = packet_pad::compact_frames(&mut data[to..], p.toc, ns, self_delimited, first);
     Places {
         to: to + bytes,

@@ -34,11 +34,12 @@ pub struct Packet {
     pub taken: usize,
 }
 
-// The same beside the lengths, which are lent.
+// The same beside the lengths, which are lent. The count has 16 bits: before a `usize` the TOC byte would have seven bytes behind it that hold nothing, which
+// no register holds either, and each part of the reader would copy them through memory (docs/PERFORMANCE.md).
 #[derive(Clone, Copy)]
 pub struct PacketHead {
     pub toc: u8,
-    pub count: usize,
+    pub count: u16,
     pub first: usize,
     pub taken: usize,
 }
@@ -74,7 +75,7 @@ fn size_rule(count_byte: u8) -> Rule
 // The packet of frames that were read at a place.
 fn packet_at(
     toc: u8,
-    count: usize,
+    count: u16,
     at: usize,
     pad: usize,
     f: Result<(usize, usize), Broken>,
@@ -97,11 +98,7 @@ fn packet_at(
 }
 
 // The packet of frames that were read right behind the TOC byte.
-fn behind_toc(
-    toc: u8,
-    count: usize,
-    f: Result<(usize, usize), Broken>,
-) -> Result<PacketHead, Refusal>
+fn behind_toc(toc: u8, count: u16, f: Result<(usize, usize), Broken>) -> Result<PacketHead, Refusal>
     requires { 1 + end_of f ≤ 65535 }
     ensures { result ≡ head_at toc count 1 0 f }
 {
@@ -129,7 +126,7 @@ fn unequal_3(
         Err(place) => broken_head(Rule::R7, at + place),
         Ok((next, sum)) => packet_at(
             toc,
-            count,
+            count as u16,
             at,
             pad,
             last_frame(s, next, sum, k, self_delimited, lengths),
@@ -161,7 +158,7 @@ fn read_body(
     let s = &data[at..end];
     if count_byte / 128 % 2 == 0 {
         let f = equal_frames(s, count, Rule::R6, self_delimited, lengths);
-        return packet_at(data[0], count, at, pad, f);
+        return packet_at(data[0], count as u16, at, pad, f);
     }
     unequal_3(s, data[0], count, at, pad, self_delimited, lengths)
 }
@@ -347,7 +344,7 @@ pub fn opus_packet_parse_impl(data: &[u8], self_delimited: bool) -> Result<Packe
     let h = read_into(data, self_delimited, &mut lengths)?;
     Ok(Packet {
         toc: h.toc,
-        count: h.count,
+        count: h.count as usize,
         lengths,
         first: h.first,
         taken: h.taken,

@@ -90,7 +90,13 @@ fn weigh_whole(data: &[u8], self_delimited: bool) -> Weighed
 {
     let mut lengths = [0u16; 48];
     match opus::read_into(data, self_delimited, &mut lengths) {
-        Ok(p) => weigh_read(data, self_delimited, &lengths[..p.count], p.first, p.taken),
+        Ok(p) => weigh_read(
+            data,
+            self_delimited,
+            &lengths[..p.count as usize],
+            p.first,
+            p.taken,
+        ),
         Err(e) => Weighed {
             verdict: refused(e),
             least: data.len(),

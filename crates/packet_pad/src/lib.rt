@@ -89,7 +89,7 @@ pub fn pad_packet(data: &mut [u8], len: usize, new_len: usize) -> Result<u16, Re
 {
     let mut lengths = [0u16; 48];
     let p = opus::read_into(&data[..len], false, &mut lengths)?;
-    pad_frames(data, p.toc, &lengths[..p.count], p.first, new_len);
+    pad_frames(data, p.toc, &lengths[..p.count as usize], p.first, new_len);
     Ok(opus_defines::OPUS_OK)
 }
 
@@ -141,7 +141,7 @@ fn unpad_packet(data: &mut [u8], len: usize) -> Result<u16, Refusal>
 {
     let mut lengths = [0u16; 48];
     let p = opus::read_into(&data[..len], false, &mut lengths)?;
-    let bytes = compact_frames(data, p.toc, &lengths[..p.count], false, p.first);
+    let bytes = compact_frames(data, p.toc, &lengths[..p.count as usize], false, p.first);
     Ok(bytes as u16)
 }
 

@@ -93,7 +93,7 @@ fn read_dirty(data: &[u8], self_delimited: bool) -> bool
     let Ok(p) = opus::read_into(data, self_delimited, &mut lengths) else {
         return false;
     };
-    let m = opus_header::sums_of(&lengths[..p.count]);
+    let m = opus_header::sums_of(&lengths[..p.count as usize]);
     let from = p.first + m.total;
     dirt_in(&data[from..p.taken])
 }

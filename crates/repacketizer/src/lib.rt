@@ -260,7 +260,7 @@ fn add_read(
             packet,
             at,
             p.toc,
-            &lengths[..p.count],
+            &lengths[..p.count as usize],
             data,
             p.first,
             store,

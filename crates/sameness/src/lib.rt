@@ -50,8 +50,8 @@ fn same_frames(p: &[u8], q: &[u8]) -> bool
     if a.toc / 4 != b.toc / 4 {
         return false;
     }
-    let n = a.count;
-    let k = b.count;
+    let n = a.count as usize;
+    let k = b.count as usize;
     if !equal_lengths(&ns[..n], &ms[..k]) {
         return false;
     }

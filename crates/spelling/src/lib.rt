@@ -52,7 +52,7 @@ pub fn spell(packet: &[u8], work: &mut [u8]) -> Spelling
 {
     let mut lengths = [0u16; 48];
     match opus::read_into(packet, false, &mut lengths) {
-        Ok(p) => spell_frames(packet, work, p.toc, &lengths[..p.count], p.first),
+        Ok(p) => spell_frames(packet, work, p.toc, &lengths[..p.count as usize], p.first),
         Err(_) => Spelling::Original,
     }
 }

@@ -31,11 +31,11 @@ fn look_at(data: &[u8], self_delimited: bool, compact_delimited: bool) -> Result
 {
     let mut ns = [0u16; 48];
     let p = opus::read_into(data, self_delimited, &mut ns)?;
-    let m = opus_header::sums_of(&ns[..p.count]);
-    let bytes = opus_header::compact_bytes(p.count, m, compact_delimited);
+    let m = opus_header::sums_of(&ns[..p.count as usize]);
+    let bytes = opus_header::compact_bytes(p.count as usize, m, compact_delimited);
     Ok(Look {
         taken: p.taken,
-        time: opus_toc::time_48k(p.toc, p.count as u16),
+        time: opus_toc::time_48k(p.toc, p.count),
         bytes,
     })
 }
@@ -50,7 +50,14 @@ fn put_stream(data: &[u8], self_delimited: bool, dst: &mut [u8], compact_delimit
 {
     let mut ns = [0u16; 48];
     let p = opus::read_into(data, self_delimited, &mut ns).unwrap();
-    opus_header::put_compact(dst, p.toc, &ns[..p.count], data, p.first, compact_delimited)
+    opus_header::put_compact(
+        dst,
+        p.toc,
+        &ns[..p.count as usize],
+        data,
+        p.first,
+        compact_delimited,
+    )
 }
 
 // ---- all of them

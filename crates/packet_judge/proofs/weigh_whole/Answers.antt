@@ -15,7 +15,7 @@ reading c = readable _ _ _ _ (record { byte = λ i. search rules })
 
 pub slice_bounds-lengths-end : goal.slice_bounds-lengths-end
 slice_bounds-lengths-end c =
-    (reading c).inside
+    (reading (goal.at.slice_bounds-lengths-end c).In-Ok).inside
 
 pub slice_bounds-weigh_read-end : goal.slice_bounds-weigh_read-end
 slice_bounds-weigh_read-end c =

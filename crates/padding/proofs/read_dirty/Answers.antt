@@ -24,7 +24,7 @@ returns-in_default c =
 
 pub slice_bounds-lengths-end : goal.slice_bounds-lengths-end
 slice_bounds-lengths-end c =
-    (reading c).inside
+    (reading (goal.at.slice_bounds-lengths-end c).In-Ok).inside
 
 pub slice_bounds-sums_of-end : goal.slice_bounds-sums_of-end
 slice_bounds-sums_of-end c =

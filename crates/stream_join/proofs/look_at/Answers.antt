@@ -36,15 +36,6 @@ compact_bytes-bytes-requires c =
     let s = (reading (goal.at.compact_bytes-bytes-requires c).In_ok-p).some in
     sums_few _ c.sums_of-m.result c.sums_of-m.ensures s.1 s.2
 
-pub overflow_cast-p : goal.overflow_cast-p
-overflow_cast-p c =
-    omega (
-      arith,
-      (reading (goal.at.overflow_cast-p c).In_ok-p).some.1,
-      length-take-le c.in_ok-p.p.count c.read_into.new.lengths
-          (reading (goal.at.overflow_cast-p c).In_ok-p).inside,
-    )
-
 pub returns : goal.returns
 returns c =
     let whole = look_told _ _ _ (lent_accepted _ _ _ _ c.read_into.ensures _ c.in_ok-p.was) c.args.compact_delimited

@@ -14,7 +14,7 @@ use Rattle.opus.proofs.AtPacket.{parse_read}
 use Rattle.opus.proofs.AtShort.{ShortRead, one_read, two_read, none_read, counted_some}
 use Rattle.opus.proofs.AtEqual.{EqualRead, same_read, wrong_read}
 use Rattle.opus.proofs.Lent.{lent_accepted, lent_refused}
-use Rattle.aveluafi.proofs.Records.{read_few, record_read, record_unread, one_record, two_record, same_record, long_record, broken_record}
+use Rattle.aveluafi.proofs.Records.{record_read, record_unread, one_record, two_record, same_record, long_record, broken_record}
 use Rattle.aveluafi.proofs.reading.aveluafi_packet_parse.Goals as goal
 use Rattle.aveluafi.proofs.reading.aveluafi_packet_parse.Goals.{After-read_packet, After-short_at-s, In-Broken, In-One, In-Same, In-Two, In-Wrong}
 
@@ -117,11 +117,6 @@ read_packet-requires c =
       in_bounds = (omega (arith, some), omega (arith, c.if-data-gt-MOST_PACKET-2.false));
       zeros = search rules;
     }
-
-pub whole_packet-requires : goal.whole_packet-requires
-whole_packet-requires c =
-    let e = answered (goal.at.whole_packet-requires c).After-read_packet in
-    omega (arith, read_few _ _ _ _ (lent_accepted _ _ _ _ e _ c.in-Ok.is) (record { byte = λ i. (c.type_inv.«data» i).fits }))
 
 pub returns-in-Ok : goal.returns-in-Ok
 returns-in-Ok c =

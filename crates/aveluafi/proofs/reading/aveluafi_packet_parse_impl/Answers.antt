@@ -8,7 +8,7 @@ use Rattle.opus_format.proofs.Within.{refused_within}
 use Rattle.opus.specs.Answers.{short_at}
 use Rattle.opus.proofs.AtShort.{Seen, one_seen, two_seen, none_read, one_ends, two_ends}
 use Rattle.opus.proofs.Lent.{lent_accepted, lent_refused}
-use Rattle.aveluafi.proofs.Records.{read_few, record_read, record_unread, one_record, two_record, long_record, broken_record}
+use Rattle.aveluafi.proofs.Records.{record_read, record_unread, one_record, two_record, long_record, broken_record}
 use Rattle.aveluafi.proofs.reading.aveluafi_packet_parse_impl.Goals as goal
 use Rattle.aveluafi.proofs.reading.aveluafi_packet_parse_impl.Goals.{After-own_at-s, Else-data-gt-MOST_PACKET, In-Broken, In-One, In-Two}
 
@@ -81,13 +81,6 @@ returns-in-Broken c =
     c.no_packet-in-Broken.ensures
     ∙ broken_record c.args.self_delimited c.args.«data».now c.if-data-gt-MOST_PACKET.false _ _ (none (goal.at.returns-in-Broken c).In-Broken)
     c.rule_refusal.ensures
-
-pub whole_packet-requires : goal.whole_packet-requires
-whole_packet-requires c =
-    omega (
-      arith,
-      read_few _ _ _ _ (lent_accepted _ _ _ _ c.read_into.ensures _ c.in-Ok.is) (record { byte = λ i. (c.type_inv.«data» i).fits }),
-    )
 
 pub returns-in-Ok : goal.returns-in-Ok
 returns-in-Ok c =

@@ -1,5 +1,4 @@
 -- `aveluafi::reading::size_record` meets its contract: a count or a refusal becomes its report.
-use mathlib.Core.Path.{◌∙◌}
 use Rattle.aveluafi.proofs.Records.{size_reported, no_size_reported}
 use Rattle.aveluafi.proofs.reading.size_record.Goals as goal
 
