@@ -49,6 +49,17 @@ impl Output {
         }
     }
 
+    // Two bytes: the end is kept in memory, and is read and stored once for both.
+    fn pair(&mut self, a: u8, b: u8)
+        ensures { Puts self.old self.new (a ∷ b ∷ []) }
+    {
+        if self.end + 2 <= ROOM {
+            self.bytes[self.end] = a;
+            self.bytes[self.end + 1] = b;
+            self.end += 2;
+        }
+    }
+
     pub fn text(&mut self, s: &[u8])
         ensures { Puts self.old self.new s.now }
     {
@@ -59,10 +70,13 @@ impl Output {
 
     // ---- numbers
 
+    // Most of what is put are these: the digits go from where io writes them straight to the line.
     pub fn decimal(&mut self, n: usize)
         ensures { Puts self.old self.new (Text·decimal n) }
     {
-        self.text(show::decimal_text(n).as_bytes());
+        let mut digits = [0u8; 20];
+        let k = io::decimal(n as u64, &mut digits);
+        self.text(&digits[..k]);
     }
 
     // A number that a call returned.
@@ -115,8 +129,7 @@ impl Output {
             self.put(b'-');
         }
         for b in s {
-            self.put(hex_digit(b / 16));
-            self.put(hex_digit(b % 16));
+            self.pair(hex_digit(b / 16), hex_digit(b % 16));
         }
     }
 
