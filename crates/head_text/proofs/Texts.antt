@@ -1,7 +1,5 @@
--- The texts of a header as parts that are put one behind another. A call is passed the bits of a signed number.
+-- The gain of a header as a number to be put. A call is passed the bits of a signed number.
 --     wider, gain_cast                      the gain, in 16 bits and in 32
---     gain_parts .. streams_parts           lines
---     head_parts, told                      all of them
 -- Assumes nothing.
 use native.Mathlib.Omega.{arith}
 use lib.IntN.{ℤ, pos, negsuc}

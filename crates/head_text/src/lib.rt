@@ -149,7 +149,7 @@ pub fn put_text(data: &[u8], out: &mut [u8]) -> usize
 
 // Prints the text; where that fails it is told.
 pub fn print(data: &[u8]) {
-    let mut text: TextBuf<1165> = TextBuf::new();
-    build_text(data, &mut text);
-    let _ = stdio::print(text.as_bytes());
+    let mut out = [0u8; 1165];
+    let n = put_text(data, &mut out);
+    let _ = stdio::print(&out[..n]);
 }

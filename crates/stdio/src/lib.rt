@@ -66,11 +66,10 @@ pub fn put_read_failed(out: &mut [u8; 73], n: usize) -> usize
     text.copy_to(out)
 }
 
-#[tactic(auto, using(crate::proofs::Line::line_most))]
 pub fn tell_read_failed(n: usize) {
-    let mut text: TextBuf<73> = TextBuf::new();
-    build_read_failed(&mut text, n);
-    io::write_all(STDERR_FILENO, text.as_bytes());
+    let mut out = [0u8; 73];
+    let k = put_read_failed(&mut out, n);
+    io::write_all(STDERR_FILENO, &out[..k]);
 }
 
 // The same for an input that has more bytes than a program counts.
