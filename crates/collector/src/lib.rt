@@ -44,8 +44,8 @@ pub fn total_16(ns: &[u16]) -> u16
     ensures { result ≡ total ns.now % 65536 }
 {
     let mut sum: u16 = 0;
-    for &n in ns {
-        sum = sum.wrapping_add(n);
+    for i in 0..ns.len() {
+        sum = sum.wrapping_add(ns[i]);
     }
     sum
 }

@@ -14,8 +14,8 @@ fn largest(s: &[u8]) -> u8
     ensures { result ≡ longest s.now }
 {
     let mut most: u8 = 0;
-    for &b in s {
-        most = most.max(b);
+    for i in 0..s.len() {
+        most = most.max(s[i]);
     }
     most
 }

@@ -1,33 +1,36 @@
 -- Lengths and frames that were stored behind others.
---     first_then                            a first length and those behind it, as the code stores them
+--     sets_first, sets_again, sets_more     one length more, as a loop stores them
 --     two_put                               two lengths, as the code stores them
 --     numbers_kept                          there are as many numbers as before
 --     cut-copied                            frames that were copied behind others are read back with them
 -- Assumes nothing.
-use Prim.Native.Nat.{ℕ, suc, ◌+◌, ◌-◌, ◌≤◌}
+use Prim.Native.Nat.{ℕ, suc, ◌+◌, ◌-◌, ◌≤◌, ◌<◌}
 use native.Mathlib.Omega.{arith}
 use native.Mathlib.Numerals.{add-one}
-use mathlib.Core.Path.{◌≡◌, refl, ap, ◌∙◌}
+use mathlib.Core.Path.{◌≡◌, ap, sym, ◌∙◌}
 use mathlib.Core.List.{List, [], ◌∷◌, ◌++◌, append_assoc}
-use lib.ListN.{length, get_or, take, drop, set, replicate, length-drop, length-set}
-use lib.Seq.{sets, sets-eq, drop_at, take_all, length-take-le, length-sets}
-use borrow.Rule.Slice.PartMut.{put_mid}
+use lib.ListN.{length, get_or, take, drop, set, replicate, length-drop}
+use lib.Seq.{sets, set-set, sets-eq, drop_at, length-take-le, length-sets}
 use Rattle.opus_format.specs.Frames.{cut, total}
-use Rattle.opus_format.proofs.Lengths.{cut-append, cut-front}
+use Rattle.opus_format.proofs.Lengths.{take_next, cut-append, cut-front}
 use Rattle.blocks.specs.Blocks.{part, copied}
 use Rattle.packet_numbers.specs.Numbers.{number_after}
-use Rattle.blocks.proofs.Sets.{length_part}
-use Rattle.blocks.proofs.LentParts.{sets-whole}
+use Rattle.blocks.proofs.Sets.{sets-next, length_part}
 
--- ---- a first one, and those behind it
-pub first_then : (l : List ℕ) (at : ℕ) (ns : List ℕ) {v : List ℕ} → 1 ≤ length ns → at + length ns ≤ length l → v ≡ take (length ns - 1) (drop 1 ns)
-    → put_mid (at + 1) (at + length ns - (at + 1)) (set l at (get_or ns 0 0)) v ≡ sets l at ns
-first_then l at [] h k e = absurd (omega arith)
-first_then l at (n ∷ ns) h k e =
-    let many : at + suc (length ns) - (at + 1) ≡ at + 1 + length ns - (at + 1) = omega arith in
-    let room : at + 1 + length ns ≤ length (set l at n) = simp length-set (omega arith) in
-    rw many (sets-whole (set l at n) (at + 1) (length ns) ns (e ∙ take_all (suc (length ns) - 1) ns (omega arith)) room refl
-    ∙ ap (λ (k : ℕ). sets (set l at n) k ns) (add-one at))
+-- ---- one length more, behind a first one that stands already
+module _ (l : List ℕ) (at : ℕ) where
+  pub sets_first : (ns : List ℕ) → 1 ≤ length ns → set l at (get_or ns 0 0) ≡ sets (set l at (get_or ns 0 0)) at (take 1 ns)
+  sets_first [] h = absurd (omega arith)
+  sets_first (n ∷ ns) h = sym (set-set l at n n)
+
+  pub sets_again : (ns : List ℕ) → 1 ≤ length ns → sets (set l at (get_or ns 0 0)) at ns ≡ sets l at ns
+  sets_again [] h = absurd (omega arith)
+  sets_again (n ∷ ns) h = ap (λ (m : List ℕ). sets m (suc at) ns) (set-set l at n n)
+
+pub sets_more : (ns : List ℕ) (i : ℕ) → i < length ns → (l : List ℕ) (at : ℕ)
+    → set (sets l at (take i ns)) (at + i) (get_or ns i 0) ≡ sets l at (take (i + 1) ns)
+sets_more ns i h l at =
+    rw (take_next ns i h) (sets-next l at i (take i ns) (get_or ns i 0) (length-take-le i ns (omega arith)))
 
 -- ---- one length, or two
 module _ (l : List ℕ) (at : ℕ) where

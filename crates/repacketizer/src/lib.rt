@@ -95,13 +95,15 @@ fn why_not(h: Head, data: &[u8], e: Refusal) -> Refusal
     e
 }
 
-// The lengths of `ns` into `len` from a place on. The first one stands alone: most packets have one frame, and the copy is a call.
+// The lengths of `ns` into `len` from a place on. The first one stands alone: most packets have one frame, and the loop becomes a call.
 fn put_lengths(len: &mut [u16], at: usize, ns: &[u16])
     requires { (1 ≤ length ns.now) × (at + length ns.now ≤ length len.old) }
     ensures { len.new ≡ sets len.old at ns.now }
 {
     len[at] = ns[0];
-    len[at + 1..at + ns.len()].copy_from_slice(&ns[1..]);
+    for i in 1..ns.len() {
+        len[at + i] = ns[i];
+    }
 }
 
 // What an add answers where the lengths are lent. The count is no `u16`: a struct of eight bytes is kept in one register and taken apart by shifts.

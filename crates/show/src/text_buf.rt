@@ -1,5 +1,5 @@
 // A text under construction.
-ghost use Rattle.std.specs.Prelude.{◌≡◌, ◌++◌, ◌+◌, ◌≤◌, [], List, ℕ, length, take};
+ghost use Rattle.std.specs.Prelude.{◌≡◌, ◌++◌, ◌+◌, ◌≤◌, [], List, ℕ, length, take, nat_abs};
 ghost use Rattle.std.proofs.lemmas.List.Edits.{sets};
 ghost use Rattle.io.specs.Counts.{IsPrefixLen};
 ghost use Rattle.show.specs.Text.{decimal, integer, number_line, refusal};
@@ -114,7 +114,7 @@ impl<const N: usize> TextBuf<N> {
         if x < 0 {
             self.put(b"-");
         }
-        self.put_decimal(x.unsigned_abs() as usize);
+        self.put_decimal(magnitude(x));
     }
 
     // The line for what is refused.
@@ -127,4 +127,10 @@ impl<const N: usize> TextBuf<N> {
         self.put_number(number);
         self.put(b"\n");
     }
+}
+
+fn magnitude(x: i32) -> usize
+    ensures { result ≡ nat_abs x }
+{
+    x.unsigned_abs() as usize
 }

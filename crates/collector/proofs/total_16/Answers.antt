@@ -5,12 +5,12 @@ use Rattle.collector.proofs.total_16.Goals as goal
 
 pub returns : goal.returns
 returns c =
-    sum-all c.args.ns.now c.loop-n.invariant c.loop-n-test.false
+    sum-all c.args.ns.now c.loop-i.invariant c.loop-i-test.false
 
-pub loop-n-init : goal.loop-n-init
-loop-n-init c =
+pub loop-i-init : goal.loop-i-init
+loop-i-init c =
     refl
 
-pub loop-n-preserved : goal.loop-n-preserved
-loop-n-preserved c =
-    sum_more c.args.ns.now c.loop-n.invariant (omega arith) refl
+pub loop-i-preserved : goal.loop-i-preserved
+loop-i-preserved c =
+    sum_more c.args.ns.now c.loop-i.invariant (omega arith) refl

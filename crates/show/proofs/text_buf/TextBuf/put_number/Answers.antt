@@ -15,11 +15,11 @@ pub put_decimal-requires : goal.put_decimal-requires
 put_decimal-requires g c =
     elim c.if-x-lt0.branch [
       | then-x-lt0 w ↦
-          let e = negative_text c.args.x c.ranges.x w.if-x-lt0.true c.unsigned_abs.ensures.value in
+          let e = negative_text c.args.x c.ranges.x w.if-x-lt0.true c.magnitude.ensures in
           let r = rw e at c.requires in
           (search rules, rw (w.self-is, w.put.ensures, length-append) (omega arith))
       | else-x-lt0 w ↦
-          let e = natural_text c.args.x c.ranges.x w.if-x-lt0.false c.unsigned_abs.ensures.value in
+          let e = natural_text c.args.x c.ranges.x w.if-x-lt0.false c.magnitude.ensures in
           let r = rw e at c.requires in
           (search rules, rw w.self-is r)
     ]
@@ -28,9 +28,9 @@ pub returns : goal.returns
 returns g c =
     elim c.if-x-lt0.branch [
       | then-x-lt0 w ↦
-          let e = negative_text c.args.x c.ranges.x w.if-x-lt0.true c.unsigned_abs.ensures.value in
+          let e = negative_text c.args.x c.ranges.x w.if-x-lt0.true c.magnitude.ensures in
           c.put_decimal.ensures ∙ rw (w.self-is, w.put.ensures, e, append_assoc)
       | else-x-lt0 w ↦
-          let e = natural_text c.args.x c.ranges.x w.if-x-lt0.false c.unsigned_abs.ensures.value in
+          let e = natural_text c.args.x c.ranges.x w.if-x-lt0.false c.magnitude.ensures in
           c.put_decimal.ensures ∙ rw (w.self-is, e)
     ]
